@@ -4,7 +4,7 @@ PREFIX ?= /usr/local
 # Checks that the program is the one that `make build` made. A trial of installing sets this to `:` and takes any program.
 BUILT = scripts/compare-build
 
-.PHONY: demo test edits rows rows-try build static static-try calls definitions definitions-try vectors library bindings ports long faults growth hostile bench pictures pages tour interop latchset dist dist-try install uninstall clean
+.PHONY: demo test edits rows rows-try build static static-try calls definitions definitions-try secrets vectors library bindings ports long faults growth hostile bench pictures pages tour interop latchset dist dist-try install uninstall clean
 
 # Signs and verifies a document, makes a key, encrypts and decrypts a secret, and shows what happens to changed texts and wrong keys.
 demo:
@@ -43,10 +43,11 @@ static:
 static-try:
 	@scripts/static-try
 
-# Compares docs/calls.txt (what each public call may refuse and change) and docs/AUDIT.md (which definitions the promises reach) with the
-# sources. It also reads in the code that refusals for memory and devices come only from their errors, and how tags are compared.
+# Compares docs/contracts.txt (the text of each contract), docs/calls.txt (what each public call may refuse and change) and docs/AUDIT.md (which
+# definitions the promises reach) with the sources. It also reads in the code what no contract can say, by the rows of scripts/lib/origins.py.
 calls:
 	@scripts/calls
+	@scripts/aes-tables --check
 
 # Computes the definitions in specs/ and compares them with values of the standards, of Python and, if it is installed, of its cryptography.
 # Then it computes from them the answers that the rows in crates/rows/data state. It finds a mistake that a definition and the code share.
@@ -57,6 +58,11 @@ definitions:
 # nothing.
 definitions-try:
 	@scripts/definitions-try
+
+# Proves and builds the primitives as a library, marks keys and texts as undefined, and lets valgrind report each address and each branch that
+# depends on them. Then it reads the machine code of AES in everything that was built. PROCESSOR names another processor.
+secrets:
+	@scripts/secrets $(PROCESSOR)
 
 # Computes the test vectors of NIST that Debian's python3-cryptography-vectors installs, with the code of the crates, and those of Wycheproof
 # if WYCHEPROOF names their folder. Without them it names what it leaves out.

@@ -22,7 +22,8 @@
 //   - If a name is repeated in a JSON object, the last one counts.
 //   - An object takes at most 8 times its length in memory, and JSON of many small objects 270 times. So limit the length of a stranger's
 //     text.
-//   - Memory that held keys and plaintext is not wiped, and the timing of AES, which uses tables, depends on the key.
+//   - The library wipes the memory that it used. Your own is not wiped: slices, and those of answers.
+//   - The timing of reading a key's text depends on the key.
 //
 // What the caller owes:
 //   - No other goroutine may change an argument during a call.
@@ -124,32 +125,17 @@ func size(octets []byte) C.size_t {
 	return C.size_t(len(octets))
 }
 
-// answer calls with a place of this room. If the room is too small, it calls once more with the length that is needed.
-func answer(room C.size_t, call func(place []byte, length *C.size_t) C.uint32_t) ([]byte, error) {
-	var length C.size_t
-	place, err := zeros(room)
-	if err != nil {
-		return nil, err
-	}
-	status := call(place, &length)
-	if Refusal(status) == Write {
-		if place, err = zeros(length); err != nil {
-			return nil, err
-		}
-		status = call(place, &length)
-	}
-	if status != C.LAKHDZEVA_OK {
-		return nil, Refusal(status)
-	}
-	return place[:length:length], nil
-}
-
-// zeros returns so many octets, or Memory if a slice cannot have them.
-func zeros(room C.size_t) ([]byte, error) {
+// answer calls with a place of this room, which always suffices.
+func answer(room C.size_t, call func(place []byte, length *C.size_t) uint32) ([]byte, error) {
+	// A slice cannot have more.
 	if uint64(room) > 1<<47 {
 		return nil, Memory
 	}
-	return make([]byte, room), nil
+	place, length := make([]byte, room), C.size_t(0)
+	if status := call(place, &length); status != C.LAKHDZEVA_OK {
+		return nil, Refusal(status)
+	}
+	return place[:length:length], nil
 }
 
 // compact returns the flag of a form, and whether it is one of the two forms. Another number could be another flag of the header.
@@ -160,20 +146,20 @@ func compact(form Form) (C.uint, bool) {
 // Generate makes a random key as the template asks, for example {"alg":"HS256"}, and returns its JSON text.
 func Generate(wanted []byte) ([]byte, error) {
 	wanted = template(wanted)
-	return answer(C.lakhdzeva_generate_room(size(wanted)), func(key []byte, length *C.size_t) C.uint32_t {
-		return C.lakhdzeva_generate(
+	return answer(C.lakhdzeva_generate_room(size(wanted)), func(key []byte, length *C.size_t) uint32 {
+		return uint32(C.lakhdzeva_generate(
 			unsafe.Pointer(&some(wanted)[0]), size(wanted),
-			unsafe.Pointer(&some(key)[0]), size(key), length)
+			unsafe.Pointer(&some(key)[0]), size(key), length))
 	})
 }
 
 // Thumbprints returns the thumbprints of the valid keys, in their order, with a line feed between each two. That of a password is not safe
 // to publish: it lets anyone test guesses.
 func Thumbprints(keys []byte, hash Hash) (string, error) {
-	lines, err := answer(C.lakhdzeva_thumbprints_room(size(keys)), func(lines []byte, length *C.size_t) C.uint32_t {
-		return C.lakhdzeva_thumbprints(
+	lines, err := answer(C.lakhdzeva_thumbprints_room(size(keys)), func(lines []byte, length *C.size_t) uint32 {
+		return uint32(C.lakhdzeva_thumbprints(
 			unsafe.Pointer(&some(keys)[0]), size(keys), C.uint(hash),
-			unsafe.Pointer(&some(lines)[0]), size(lines), length)
+			unsafe.Pointer(&some(lines)[0]), size(lines), length))
 	})
 	return string(lines), err
 }
@@ -187,12 +173,12 @@ func Sign(keys, wanted []byte, form Form, payload []byte) ([]byte, error) {
 	}
 	wanted = template(wanted)
 	room := C.lakhdzeva_sign_room(size(keys), size(wanted), size(payload))
-	return answer(room, func(object []byte, length *C.size_t) C.uint32_t {
-		return C.lakhdzeva_sign(
+	return answer(room, func(object []byte, length *C.size_t) uint32 {
+		return uint32(C.lakhdzeva_sign(
 			unsafe.Pointer(&some(keys)[0]), size(keys),
 			unsafe.Pointer(&some(wanted)[0]), size(wanted), flags,
 			unsafe.Pointer(&some(payload)[0]), size(payload),
-			unsafe.Pointer(&some(object)[0]), size(object), length)
+			unsafe.Pointer(&some(object)[0]), size(object), length))
 	})
 }
 
@@ -207,11 +193,11 @@ func Sign(keys, wanted []byte, form Form, payload []byte) ([]byte, error) {
 //   - It computes an HMAC of the payload for each key, algorithm and protected header, at most 256 times 64: limit the length of what
 //     strangers send.
 func Verify(keys, object []byte, signers Signers) ([]byte, error) {
-	return answer(C.lakhdzeva_verify_room(size(object)), func(payload []byte, length *C.size_t) C.uint32_t {
-		return C.lakhdzeva_verify(
+	return answer(C.lakhdzeva_verify_room(size(object)), func(payload []byte, length *C.size_t) uint32 {
+		return uint32(C.lakhdzeva_verify(
 			unsafe.Pointer(&some(keys)[0]), size(keys),
 			unsafe.Pointer(&some(object)[0]), size(object), C.uint(signers),
-			unsafe.Pointer(&some(payload)[0]), size(payload), length)
+			unsafe.Pointer(&some(payload)[0]), size(payload), length))
 	})
 }
 
@@ -226,11 +212,11 @@ func Verify(keys, object []byte, signers Signers) ([]byte, error) {
 // The rest is as for Verify.
 func VerifyAll(keys []byte, signers int, object []byte) ([]byte, error) {
 	// No text has as many keys as a negative number is as a size_t.
-	return answer(C.lakhdzeva_verify_room(size(object)), func(payload []byte, length *C.size_t) C.uint32_t {
-		return C.lakhdzeva_verify_all(
+	return answer(C.lakhdzeva_verify_room(size(object)), func(payload []byte, length *C.size_t) uint32 {
+		return uint32(C.lakhdzeva_verify_all(
 			unsafe.Pointer(&some(keys)[0]), size(keys), C.size_t(signers),
 			unsafe.Pointer(&some(object)[0]), size(object),
-			unsafe.Pointer(&some(payload)[0]), size(payload), length)
+			unsafe.Pointer(&some(payload)[0]), size(payload), length))
 	})
 }
 
@@ -248,12 +234,12 @@ func Encrypt(keys, wanted []byte, form Form, plaintext []byte) ([]byte, error) {
 	}
 	wanted = template(wanted)
 	room := C.lakhdzeva_encrypt_room(size(keys), size(wanted), size(plaintext))
-	return answer(room, func(object []byte, length *C.size_t) C.uint32_t {
-		return C.lakhdzeva_encrypt(
+	return answer(room, func(object []byte, length *C.size_t) uint32 {
+		return uint32(C.lakhdzeva_encrypt(
 			unsafe.Pointer(&some(keys)[0]), size(keys),
 			unsafe.Pointer(&some(wanted)[0]), size(wanted), flags,
 			unsafe.Pointer(&some(plaintext)[0]), size(plaintext),
-			unsafe.Pointer(&some(object)[0]), size(object), length, nil, 0, nil)
+			unsafe.Pointer(&some(object)[0]), size(object), length, nil, 0, nil))
 	})
 }
 
@@ -281,17 +267,17 @@ func Decrypt(keys, object, ciphertext []byte) ([]byte, error) {
 // The rest is as for Decrypt.
 func DecryptWithIterations(keys, object, ciphertext []byte, iterations uint64) ([]byte, error) {
 	room := C.lakhdzeva_decrypt_room(size(object), size(ciphertext))
-	return answer(room, func(plaintext []byte, length *C.size_t) C.uint32_t {
+	return answer(room, func(plaintext []byte, length *C.size_t) uint32 {
 		if ciphertext == nil {
-			return C.lakhdzeva_decrypt(
+			return uint32(C.lakhdzeva_decrypt(
 				unsafe.Pointer(&some(keys)[0]), size(keys),
 				unsafe.Pointer(&some(object)[0]), size(object), nil, 0, C.uint64_t(iterations),
-				unsafe.Pointer(&some(plaintext)[0]), size(plaintext), length)
+				unsafe.Pointer(&some(plaintext)[0]), size(plaintext), length))
 		}
-		return C.lakhdzeva_decrypt(
+		return uint32(C.lakhdzeva_decrypt(
 			unsafe.Pointer(&some(keys)[0]), size(keys),
 			unsafe.Pointer(&some(object)[0]), size(object),
 			unsafe.Pointer(&some(ciphertext)[0]), size(ciphertext), C.uint64_t(iterations),
-			unsafe.Pointer(&some(plaintext)[0]), size(plaintext), length)
+			unsafe.Pointer(&some(plaintext)[0]), size(plaintext), length))
 	})
 }

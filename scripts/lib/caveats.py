@@ -57,9 +57,8 @@ def compare_pages(table):
 def in_c():
     text = (TOP / "bindings/c/lakhdzeva.h").read_text()
     found = {"head": re.match(r"/\*(.*?)\*/", text, re.S)[1]}
-    for comment, name in re.findall(r"^/\*((?:(?!\*/).)*)\*/\nstatic inline \w+ \*?lakhdzeva_(\w+)\(", text, re.M | re.S):
-        if not name.endswith(("_", "room")) and name != "name":
-            found[name] = comment
+    for comment, name in re.findall(r"^/\*((?:(?!\*/).)*)\*/\nenum lakhdzeva_status lakhdzeva_(\w+)\(", text, re.M | re.S):
+        found[name] = comment
     found["decrypt_with_iterations"] = found["decrypt"]
     return found, "lakhdzeva_{}"
 

@@ -3,6 +3,9 @@ import os, re, shutil, subprocess
 
 from lib.sources import ROOT, read
 
+# The processor that everything is built for.
+PROCESSOR = read(f"{ROOT}/scripts/lib/processor").strip()
+
 
 def rows():
     """The rows of crates.txt by the names of their crates."""
@@ -29,14 +32,26 @@ def copied(names, room):
         shutil.copytree(f"{ROOT}/crates/{it}", f"{room}/crates/{it}", ignore=shutil.ignore_patterns("must-fail", "edits"))
 
 
-def built(name, uses, words, room):
-    """Proves and builds the program scripts/lib/NAME.rattle over these crates, in copies of them, and runs it once with these words and
-    nothing to read. Returns its path."""
+def made(name, uses, room, kind=""):
+    """Makes a crate of scripts/lib/NAME.rattle over these crates, in copies of them. Returns its folder."""
     copied(uses, room)
     with open(f"{room}/crates.txt", "a", encoding="utf-8") as file:
-        file.write(f"{name}: {' '.join(uses)}\n")
+        file.write(f"{name}{kind}: {' '.join(uses)}\n")
     folder = f"{room}/crates/{name}"
     os.makedirs(f"{folder}/src")
-    shutil.copy(f"{ROOT}/scripts/lib/{name}.rattle", f"{folder}/src/main.rt")
-    subprocess.run(["rt", "run", "--cpu=x86-64", "--", *words], cwd=folder, stdin=subprocess.DEVNULL, stdout=subprocess.DEVNULL, check=True)
+    shutil.copy(f"{ROOT}/scripts/lib/{name}.rattle", f"{folder}/src/{'lib' if kind else 'main'}.rt")
+    return folder
+
+
+def built(name, uses, words, room):
+    """Proves and builds the program scripts/lib/NAME.rattle, and runs it once with these words and nothing to read. Returns its path."""
+    folder = made(name, uses, room)
+    subprocess.run(["rt", "run", f"--cpu={PROCESSOR}", "--", *words], cwd=folder, stdin=subprocess.DEVNULL, stdout=subprocess.DEVNULL, check=True)
     return f"{folder}/out/{name}"
+
+
+def built_library(name, uses, room, processor):
+    """Proves scripts/lib/NAME.rattle and builds it for a processor, as a library for C. Returns its path."""
+    folder = made(name, uses, room, " staticlib")
+    subprocess.run(["rt", "lib", f"--cpu={processor}"], cwd=folder, stdin=subprocess.DEVNULL, stdout=subprocess.DEVNULL, check=True)
+    return f"{folder}/out/lib{name}.a"

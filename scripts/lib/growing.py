@@ -223,11 +223,11 @@ def signing(protected="", header_members="", count=1, key="", payload=64, length
     return {"template": made, "keys": keys_with(octets_for(length), count, key), **content(payload)}
 
 
-def encrypting(protected="", unprotected="", aad=0, template="", count=1, key="", plaintext=64, length=16):
+def encrypting(protected="", unprotected="", aad=0, template="", count=1, key="", other_key="", plaintext=64, length=16):
     """The files for `jwe enc`: a template with these headers, additional data of a length, and the listed members; keys of a length, a
-    plaintext, and random octets."""
+    plaintext, and random octets. Each key but the last may have members of its own."""
     made = object_text(template, protected=header(protected), unprotected=header(unprotected), aad=optional(b64(bytes(aad))))
-    return {"template": made, "keys": keys_with(octets_for(length), count, key), **content(plaintext), "random": octets_for(8192)}
+    return {"template": made, "keys": keys_with(octets_for(length), count, key, other_key), **content(plaintext), "random": octets_for(8192)}
 
 
 # ---- objects
@@ -333,29 +333,32 @@ def encrypted(form="compact", ciphertext=64, protected="", unprotected="", heade
     """The files for `jwe dec` and `jwe fmt`: an encrypted object, keys of which the last is right, and the ciphertext if it is detached.
 
     The object, and each recipient and header have the listed members (`beside`, `within`, `protected`, `unprotected`, `header_members`).
-    `where` is the header with the `alg`; the protected header has the `enc`. By A128KW `right` says which encrypted keys are right. The
+    `where` is the header with the `alg`; the protected header has the `enc`. Several algorithms have `/` between them, and the
+    recipients have them in turn. By A128KW `right` says which encrypted keys are right. The
     others have `wrong` octets, and differ unless they are `alike`. With `p2s` each recipient has a salt of its own of so many octets.
     `aad` is a length, and so are `iv` and `tag` unless they are right. `bad` names the part that is no base64url text.
     """
-    named = {"alg": literal(alg)}
+    algs = alg.split("/")
+    named = {"alg": literal(algs[0])}
     head = protected_text(object_text(protected, enc=literal(enc), **(named if where == "protected" else {})))
     shared = object_text(unprotected, **(named if where == "unprotected" else {}))
     more = b64(bytes(aad))
     octets, vector, code = (sealed_by_gcm if enc == "A128GCM" else sealed_by_cbc)(ciphertext, head + (b"." + more if more else b""))
     vector, code = vector if iv == "right" else bytes(iv), code if tag == "right" else bytes(tag)
     parts = spoil(bad, protected=head, aad=more, iv=b64(vector), ciphertext=b"" if detached else b64(octets), tag=b64(code))
-    correct = right_ones(right, recipients) if alg == "A128KW" else set()
+    correct = right_ones(right, recipients) if "A128KW" in algs else set()
     guesses = [bytes(wrong)] * recipients if alike else different("encrypted keys", recipients, wrong)
     salts = different("salts", recipients, p2s)
     items = []
     for at in range(recipients):
         encrypted_key = b"" if alg == "dir" else b64(WRAPPED_CEK if at in correct else guesses[at])
+        named = {"alg": literal(algs[at % len(algs)])}
         own = object_text(header_members, p2s=optional(b64(salts[at])), **(named if where == "header" else {}))
         items.append({"header": unless_empty(own), **{name: optional(part) for name, part in spoil(bad, encrypted_key=encrypted_key).items()}})
     outer = {name: optional(part) for name, part in parts.items()} | {"unprotected": unless_empty(shared)}
     compact = [parts["protected"], encrypted_key, parts["iv"], parts["ciphertext"], parts["tag"]]
     made = in_form(form, compact, outer, items, "recipients", beside, within)
-    right_key = WRAPPING_KEY if alg == "A128KW" else GCM_KEY if enc == "A128GCM" else CEK
+    right_key = WRAPPING_KEY if "A128KW" in algs else GCM_KEY if enc == "A128GCM" else CEK
     return {"object": made, "keys": keys_with(right_key, count, key, other_key), **({"content": octets} if detached else {})}
 
 

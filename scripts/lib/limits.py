@@ -4,8 +4,8 @@ A limit is found by the words around it, which are those of `STATED`. It is a fa
 limit and is in other words. Then add these words to `STATED`, or to `OTHERS` if the number is no limit. docs/PERFORMANCE.md,
 docs/DECISIONS.md and CHANGELOG.md are not compared, since they say what was measured, chosen and changed.
 
-The bindings repeat limits in their code, in rooms and draws of random octets. Each place of `CODE` must be there, with the number that it has
-now. They also have the numbers and the names of the refusals.
+lakhdzeva.c repeats limits in its code, in rooms and draws of random octets. Each place of `CODE` must be there, with the number that it has
+now. The bindings have the numbers and the names of the refusals.
 """
 import re
 
@@ -13,7 +13,7 @@ from lib.manual import plain
 from lib.trial import TOP, check
 
 TEXTS = ["README.md", "SECURITY.md", "docs/SPECIFICATION.md", "docs/LIBRARY.md", "docs/FROM-LATCHSET.md", "docs/ARCHITECTURE.md", "docs/PROOFS.md"]
-HEADER, PYTHON, GO = "bindings/c/lakhdzeva.h", "bindings/python/src/lakhdzeva/__init__.py", "bindings/go/lakhdzeva.go"
+HEADER, SOURCE, PYTHON, GO = "bindings/c/lakhdzeva.h", "bindings/c/lakhdzeva.c", "bindings/python/src/lakhdzeva/__init__.py", "bindings/go/lakhdzeva.go"
 FILES = ["man/*.1", *TEXTS, "examples/*.sh", HEADER, PYTHON, "bindings/rust/src/*.rs", GO, "bindings/*/README.md"]
 NUMBER = r"\d+(?:,\d{3})*"
 # A number must not be part of a word, a name, a power or a longer number. These patterns exclude that before and behind it.
@@ -71,24 +71,18 @@ OTHERS = [
     "template once, and 256 octets or less for a recipient",
     "[+] 2[)] [*] 256",
 ]
-# The places of limits in the code of the bindings. A first draw of 64 octets suffices for each algorithm.
+# The places of limits in the code of lakhdzeva.c. A first draw of 64 octets suffices for each algorithm.
 CODE = {
-    HEADER: [
-        "return keys < {MOST_KEYS} ? keys : {MOST_KEYS};", "if (each > SIZE_MAX / {MOST_KEYS})", "return lakhdzeva_sum_(wanted_length, {KEY_ROOM});",
-        "uint8_t random[{MOST_KEY_OCTETS}];", "drawn = 64; drawn <= sizeof random && status == LAKHDZEVA_RANDOM; drawn *= {DRAWS})",
+    SOURCE: [
+        "return keys < {MOST_KEYS} ? keys : {MOST_KEYS};", "return each > SIZE_MAX / {MOST_KEYS} ?", "return sum(wanted_length, {KEY_ROOM});",
+        "uint8_t random[{MOST_KEY_OCTETS}];", "most = 64; most <= sizeof random && status == LAKHDZEVA_RANDOM; most *= {DRAWS})",
         "uint8_t random[80 + 16 * {MOST_KEYS}];",
     ],
-    PYTHON: [
-        "return min(keys // each + 1, {MOST_KEYS})", "return wanted + {KEY_ROOM}", "for drawn in (64, {MOST_KEY_OCTETS}):",
-        "if refused.number != _RANDOM or drawn == {MOST_KEY_OCTETS}:",
-    ],
-    "bindings/rust/src/rooms.rs": ["const MOST_KEYS: usize = {MOST_KEYS};", "wanted.saturating_add({KEY_ROOM})"],
-    "bindings/rust/src/lib.rs": ["let mut random = [0; {MOST_KEY_OCTETS}];", "for most in [64, random.len()]"],
 }
 # How the bindings have a refusal: its number N, its name, and its name with underscores. In Go two names are other ones.
 REFUSALS = {
-    HEADER: ["LAKHDZEVA_{UPPER} = {N}"], PYTHON: ["- {N} ``{NAME}``: "], GO: [" Refusal = C.LAKHDZEVA_{UPPER}\n"],
-    "bindings/rust/src/refusal.rs": ["Refusal::{NAME} => {N},", 'Refusal::{NAME} => "{NAME}",'],
+    HEADER: ["LAKHDZEVA_{UPPER} = {N}"], SOURCE: ['"{NAME}",'], PYTHON: ["- {N} ``{NAME}``: "], GO: [" Refusal = C.LAKHDZEVA_{UPPER}\n"],
+    "bindings/rust/src/refusal.rs": ["Refusal::{NAME} => {N},"],
 }
 
 
@@ -124,7 +118,7 @@ def compare_code(wanted):
     for file, places in REFUSALS.items():
         text = (TOP / file).read_text()
         each = [place.format(N=number, NAME=name, UPPER=re.sub(r"(?<!^)(?=[A-Z])", "_", name).upper()) for name, number in refusals for place in places]
-        if file in (HEADER, PYTHON):
+        if file == SOURCE:
             each.append(" ".join(["Ok", *(name for name, _ in refusals)]))
             text += re.sub(r'[\s",]+', " ", text)
         check(f"{file}: it has each of {len(refusals)} refusals", [f"no `{it.strip()}`" for it in each if it not in text] or ["they cannot be read"] * (not refusals))

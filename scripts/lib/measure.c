@@ -1,9 +1,12 @@
 /* Replaces the C library's calls for memory, reading and writing in a program that is run with this library preloaded. It counts the calls
    that the program itself makes; those that the C library makes for itself are not counted. Each block of the program has a head with the
-   size that was asked for. At the end it writes seven numbers to the descriptor COUNT: the most octets that were held at once, the calls
-   that asked for memory, the octets that these asked for in sum, the reads, the octets that were read, the writes, and the octets that were
-   written. A call that makes a block larger or smaller counts with the whole new size, since it may copy the block. */
+   size that was asked for. At the end it writes eight numbers to the descriptor COUNT: the most octets that were held at once, the calls
+   that asked for memory, the octets that these asked for in sum, the reads, the octets that were read, the writes, the octets that were
+   written, and the files that were opened or synchronized. A call that makes a block larger or smaller counts with the whole new size,
+   since it may copy the block. */
 #include "preload.h"
+#include <fcntl.h>
+#include <stdarg.h>
 #include <sys/syscall.h>
 #include <sys/uio.h>
 
@@ -14,11 +17,16 @@ struct head {
 };
 static const uintptr_t MARK = 0x6a6f7365206d656d;
 
-static size_t held, most, asks, asked, reads, octets_read, writes, octets_written;
+static size_t held, most, asks, asked, reads, octets_read, writes, octets_written, opens;
 
 __attribute__((destructor)) static void end(void) {
     if (getenv("COUNT"))
-        dprintf(number("COUNT", 0), "%zu %zu %zu %zu %zu %zu %zu", most, asks, asked, reads, octets_read, writes, octets_written);
+        dprintf(number("COUNT", 0), "%zu %zu %zu %zu %zu %zu %zu %zu", most, asks, asked, reads, octets_read, writes, octets_written, opens);
+}
+
+/* What the program holds now. */
+size_t held_now(void) {
+    return held;
 }
 
 /* The head of a block of the program, or none for a block of the C library. */
@@ -60,6 +68,12 @@ void *realloc(void *place, size_t size) {
     struct head *moved = __libc_realloc(head, size + sizeof(struct head));
     if (moved) held -= before;
     return counted(moved, size);
+}
+
+/* The library for C asks this of its own blocks, before it wipes them. */
+size_t malloc_usable_size(void *place) {
+    struct head *head = head_of(place);
+    return head ? head->size : 0;
 }
 
 void free(void *place) {
@@ -115,4 +129,22 @@ ssize_t pwrite64(int file, const void *octets, size_t length, off_t at) {
 
 ssize_t writev(int file, const struct iovec *octets, int number) {
     return WRITE(syscall(SYS_writev, file, octets, number));
+}
+
+static int opened(void *caller, const char *name, int flags, mode_t mode) {
+    opens += is_own(caller);
+    return syscall(SYS_openat, AT_FDCWD, name, flags, mode);
+}
+
+int open(const char *name, int flags, ...) {
+    va_list rest;
+    va_start(rest, flags);
+    int file = opened(__builtin_return_address(0), name, flags, flags & O_CREAT ? va_arg(rest, mode_t) : 0);
+    va_end(rest);
+    return file;
+}
+
+int fsync(int file) {
+    opens += is_own(__builtin_return_address(0));
+    return syscall(SYS_fsync, file);
 }

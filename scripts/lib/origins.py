@@ -1,5 +1,5 @@
-"""Compares the code of the crates with PLACES below, for what no contract can say: that memory was refused, that a device failed, and how
-octets were compared.
+"""Compares the code of the crates with PLACES below, for what no contract can say: that memory was refused, that a device failed, how octets
+were compared, that memory is let go, and what the system is asked for.
 
 For example, a function that answers Memory for every text above some length can be proved. So this script reads the code itself
 (sources.py), word by word. Each of the following needs a row in PLACES, with the code as it is and what it comes from. A place without a
@@ -8,22 +8,30 @@ row fails, and so does a row whose code is not there exactly once.
   is_memory, Partial, ErrorKind and `Error`. Imports and the types of results are free.
 - Each `impl` for `Refusal` or `Fault`; each device, which is an `impl` of Read, Write, Input or Output; unsafe code, since it can make any
   value.
-- A growth that is asked for by a number (ROOMS), and each loop that does not go through a list, in a function that may take memory. The
-  types of fields are free.
-- Each comparison for equality in the crates that compare tags and signatures (COMPARING), unless one side is a number or a length. In all
-  crates: a function that has two octet parameters and returns a bool, and `same_octets` if it is named without being called.
+- A growth that is asked for by a number (ROOMS), and, in a function that may take memory, each loop that counts, goes through an array
+  that it writes out, or does not name its items. The types of fields are free.
+- Each comparison for equality in the crates that compare tags and signatures (COMPARING), unless one side is a number or a length and
+  neither is a sum. In all crates: a function that has two octet parameters and returns a bool, and each call of `same_octets`. The rows of
+  the calls that decide whether something opens have the whole function, so that none of them stands in a loop.
 - Each answer that is made or inspected in the files that pass on the answers of std's files and streams (PASSING, by the beginnings of
   their paths).
-No name above may get another name, by `use .. as`, by `type` or by importing the cases of an enum.
+- Each function of the file that asks the system (WHOLE), and each function that is given the system, with its whole text. Each import of a
+  part of std that reaches the system (WORLD), and each path into one.
+- A device that fails when it is told to, outside of the file that has it.
+- A number other than 0 in a function that answers with a status.
+Some things have no row, and always fail: a name that keeps memory from being let go (KEPT), such as `forget`; an import of all names of a
+module other than std's vectors; a public module other than `laws`. No name above, and not `Result`, may get another name, by `use .. as`, by
+`type` or by importing the cases of an enum.
 
 What it cannot see:
-- a needless growth that is made from the input's own octets, by loops through a list inside each other, for example, or by a function that
-  calls itself;
+- a needless growth that is made from the input's own octets, by loops through a list that there is, or by a function that calls itself;
+- memory that is kept in a value that lives on, such as a field or a cycle of `Rc`;
+- a call of `same_octets` that is made in addition to the right one, in a function whose row does not have its whole text;
 - a file that is opened, or a device that is called, only in order to fail;
 - a comparison by order, by a pattern, by arithmetic or by a function of another crate, made in addition to the one by `same_octets`;
 - when the kit returns an AllocError or an io::Error, and whether the reason in a row is true.
 """
-import collections, os
+import collections, os, re
 
 from lib.sources import CRATES, ROOT, block_end, fault, parts, read, text_at, tokens_of
 
@@ -60,9 +68,6 @@ PLACES = [
      "clap's error for memory"),
     ("jose/src/lib.rt", "placeholder", "match system.open(folder) { Ok(folder) => return Ok(if_standard(folder)), "
      "Err(e) if e.kind() == io::ErrorKind::OutOfMemory => return Err(Refusal::Memory),", "std's error for memory"),
-    ("jose/src/system.rt", "HostRuntime::args", "match std::env::args(self) { Ok(args) => Ok(args.collect(self.alloc())?), "
-     "Err(e) if e.kind() == io::ErrorKind::OutOfMemory => Err(Refusal::Memory), Err(_) => Err(Refusal::Usage),",
-     "std's error for memory; an argument that is not UTF-8"),
 
     # A parameter that cannot be read is left to the recipients that need it, except for memory.
     ("objects/src/header/shared.rt", "octets_if_read", "Err(Refusal::Memory) => Err(Refusal::Memory),", "the error for memory of the reading"),
@@ -123,18 +128,6 @@ PLACES = [
     ("jose/src/apart.rt", "is_absence", "Place::Named(_) => matches!(kind, ErrorKind::NotFound),", "matched, and not made"),
     ("jose/src/files.rt", "synchronize", "match files.sync(file) { Err(e) if e.kind() == io::ErrorKind::InvalidInput || e.kind() == io::ErrorKind::Unsupported => { Ok(()) } "
      "result => result, }", "what the system answers; that a pipe or a terminal cannot be synchronized is no failure"),
-    ("jose/src/system.rt", "HostRuntime::open_device", "if metadata(self, path)?.file_type().is_char_device() { Ok(Some(File::open(self, path)?)) } "
-     "else { Ok(None) }", "what the system answers; that a file is no character device"),
-    ("jose/src/system.rt", "HostRuntime::open_uncut", "{ Ok(UncutFile(output_options(name.mode).open(self, name.path)?)) }", "what the system answers"),
-    ("jose/src/system.rt", "HostRuntime::own_status", "{ Ok(status_of(&uncut.0.metadata()?)) }", "what the system answers"),
-    ("jose/src/system.rt", "HostRuntime::status", "match place { Place::StandardInput => Ok(status_of(&metadata(self, STANDARD_INPUT)?)), "
-     "Place::StandardOutput => Ok(status_of(&metadata(self, STANDARD_OUTPUT)?)), Place::Named(path) => Ok(status_of(&metadata(self, path)?)), }",
-     "what the system answers"),
-    ("jose/src/system.rt", "HostRuntime::cut", "match file.set_len(0) { Err(e) if e.kind() != io::ErrorKind::InvalidInput => Err(e), _ => Ok(file), }",
-     "what the system answers; that a file of another kind has no length is no failure"),
-    ("jose/src/system.rt", "status_of", "let kind = found.file_type(); if kind.is_file() { return Status { file: Some(FileId::Regular(found.dev(), found.ino())), "
-     "is_empty: found.len() == 0, }; } Status { file: kind.is_block_device().then_some(FileId::Block(found.rdev())), is_empty: false, }",
-     "the numbers of a device and of an inode, in all their bits"),
     ("jose/src/files.rt", "inputs", "let text = command.option_at('i').or(command.option_at('s'));", "options of the command"),
 
     ("lakhdzeva/src/growing.rt", "", "impl Output for GrowingOutput", "it fails if memory is refused, and in no other case"),
@@ -146,7 +139,47 @@ PLACES = [
     ("lakhdzeva/src/places.rt", "deliver_both", "if both.text.len() > text.len() || both.content.len() > content.len() { return number(Refusal::Write); }",
      "a place that is too small"),
     ("lakhdzeva/src/places.rt", "in_memory", "Refusal::Read | Refusal::Write => Refusal::Memory,", "inputs in memory, which never fail, and a GrowingOutput"),
-    ("lakhdzeva/src/places.rt", "number", "Refusal::Read => 2, Refusal::Write => 3, Refusal::Memory => 4,", "matched, and not made"),
+
+    # What the system is asked. Only this file asks it.
+    ("jose/src/system.rt", "", "use std::fs::{File, Metadata, OpenOptions, metadata};", "files"),
+    ("jose/src/system.rt", "", "use std::os::unix::fs::{FileTypeExt, MetadataExt, OpenOptionsExt};", "modes, and numbers of files"),
+    ("jose/src/lib.rt", "", "use std::os::fd::AsRawFd;", "the number of a file that is held in place of a closed stream"),
+    ("jose/src/lib.rt", "", "use std::process::ExitCode;", "the status of the program"),
+    ("command/src/main.rt", "", "use std::process::ExitCode;", "the status of the program"),
+    ("command/src/main.rt", "main", "fn main(rt: HostRuntime) -> ExitCode { jose::start(rt) }", "it does nothing else"),
+    ("jose/src/lib.rt", "start", "fn start(rt: HostRuntime) -> ExitCode { let result = perform(rt.alloc(), &rt, rt.stdin(), rt.stdout()); "
+     "let mut errors = WriterOutput::new(rt.stderr()); ExitCode::from(report(result, &mut errors)) }", "the system and its streams"),
+    ("jose/src/system.rt", "", "ReadFiles for HostRuntime", "the system"),
+    ("jose/src/system.rt", "", "WriteFiles for HostRuntime", "the system"),
+    ("jose/src/system.rt", "", "System for HostRuntime", "the system"),
+    ("jose/src/system.rt", "HostRuntime::open", "fn open(&self, path: &str) -> io::Result<File> { File::open(self, path) }", "the file of this name, as it is"),
+    ("jose/src/system.rt", "HostRuntime::open_device", "fn open_device(&self, path: &str) -> io::Result<Option<File>> { if metadata(self, path)?.file_type().is_char_device() { "
+     "Ok(Some(File::open(self, path)?)) } else { Ok(None) } }", "the file of this name, if it is a character device; what the system answers"),
+    ("jose/src/system.rt", "HostRuntime::open_uncut", "fn open_uncut(&self, name: &OutputName<'_>) -> io::Result<UncutFile> { Ok(UncutFile(output_options(name.mode).open(self, name.path)?)) }", "the file of this name; what the system answers"),
+    ("jose/src/system.rt", "HostRuntime::own_status", "fn own_status(&self, uncut: &UncutFile) -> io::Result<Status> { Ok(status_of(&uncut.0.metadata()?)) }", "what the system answers"),
+    ("jose/src/system.rt", "HostRuntime::status", "fn status(&self, place: Place<'_>) -> io::Result<Status> { match place { Place::StandardInput => Ok(status_of(&metadata(self, "
+     "STANDARD_INPUT)?)), Place::StandardOutput => Ok(status_of(&metadata(self, STANDARD_OUTPUT)?)), Place::Named(path) => "
+     "Ok(status_of(&metadata(self, path)?)), } }", "what the system answers of this place"),
+    ("jose/src/system.rt", "HostRuntime::cut", "fn cut(&self, uncut: UncutFile, _name: &OutputName<'_>) -> io::Result<File> { let UncutFile(file) = uncut; match file.set_len(0) { Err(e) if "
+     "e.kind() != io::ErrorKind::InvalidInput => Err(e), _ => Ok(file), } }", "what the system answers; that a file of another kind has no length is no failure"),
+    ("jose/src/system.rt", "HostRuntime::sync", "fn sync(&self, file: &File) -> io::Result<()> { file.sync_all() }", "what the system answers"),
+    ("jose/src/system.rt", "HostRuntime::args", "fn args(&self) -> Result<Vec<String>, Refusal> { match std::env::args(self) { Ok(args) => Ok(args.collect(self.alloc())?), Err(e) if "
+     "e.kind() == io::ErrorKind::OutOfMemory => Err(Refusal::Memory), Err(_) => Err(Refusal::Usage), } }", "the program's arguments; std's error for memory; an argument that is not UTF-8"),
+    ("jose/src/system.rt", "HostRuntime::output_name", "fn output_name<'a>(&self, path: &'a str, mode: u32, others: [Option<Place<'a>>; 3],) -> OutputName<'a> { OutputName { path, mode, others } }", "it asks nothing"),
+    ("jose/src/system.rt", "OutputName::others", "fn others(&self) -> [Option<Place<'a>>; 3] { self.others }", "it asks nothing"),
+    ("jose/src/system.rt", "output_options", "fn output_options(mode: u32) -> OpenOptions { let mut options = OpenOptions::new(); options.mode(mode); "
+     "options.read(false).write(true).append(false); options.truncate(false).create(true).create_new(false); options }", "how an output is opened"),
+    ("jose/src/system.rt", "status_of", "fn status_of(found: &Metadata) -> Status { let kind = found.file_type(); if kind.is_file() { return Status { file: "
+     "Some(FileId::Regular(found.dev(), found.ino())), is_empty: found.len() == 0, }; } Status { file: "
+     "kind.is_block_device().then_some(FileId::Block(found.rdev())), is_empty: false, } }", "the numbers of a device and of an inode, in all their bits"),
+
+    # Statuses.
+    ("jose/src/ending.rt", "report", "fn report<O: Output>(outcome: Result<(), Refusal>, out: &mut O) -> u8 { match outcome { Ok(()) => 0, Err(refusal) => { let _ = "
+     "write_line(out, refusal); 1 } } }", "0 after success, and 1 after a refusal"),
+    ("lakhdzeva/src/places.rt", "number", "fn number(refusal: Refusal) -> u32 { match refusal { Refusal::Usage => 1, Refusal::Read => 2, Refusal::Write => 3, Refusal::Memory => 4, "
+     "Refusal::Random => 5, Refusal::Base64 => 6, Refusal::Json => 7, Refusal::Number => 8, Refusal::Key => 9, Refusal::Form => 10, "
+     "Refusal::Header => 11, Refusal::Unsupported => 12, Refusal::NoAlgorithm => 13, Refusal::KeyDoesNotFit => 14, Refusal::Limit => 15, "
+     "Refusal::NotCompact => 16, Refusal::NotOpened => 17, } }", "the number of each refusal"),
 
     # Memory that is asked for by a number, or in a loop that does not go through a list.
     ("octets/src/memory.rt", "MemoryOutput::new", "Vec::with_capacity(alloc, room)?", "the room that the caller asks for"),
@@ -155,26 +188,58 @@ PLACES = [
      "all that an input gives"),
     ("objects/src/shared.rt", "SharedOctets::new", "octets: Rc::new(alloc, octets)?,", "one for each parameter of a header"),
     ("objects/src/shared.rt", "SharedText::new", "text: Rc::new(alloc, String::from_str(alloc, text)?)?,", "one for each name of a header"),
-    ("jose/src/system.rt", "HostRuntime::args", "args.collect(self.alloc())?", "the program's arguments"),
 
     # Comparisons, in the crates that compare tags and signatures.
-    ("octets/src/lanes.rt", "same_octets", "fn same_octets(a: &[u8], b: &[u8]) -> bool", "the declaration"),
-    ("modes/src/gcm.rt", "gcm_open", "if !same_octets(&expected, tag) { return None; }", "the tag of GCM"),
-    ("ciphers/src/cbc_hmac.rt", "open_cbc_hmac", "if !same_octets(&expected[..len], tag) { return None; }", "the tag of AES-CBC with HMAC"),
-    ("tokens/src/verify/heads.rt", "is_one_of", "same_octets(mac.octets(), signature.signature())", "the signature"),
+    ("octets/src/lanes.rt", "same_octets", "fn same_octets(a: &[u8], b: &[u8]) -> bool { if a.len() != b.len() { return false; } "
+     "let (blocks, _) = a.as_chunks::<32>(); let (others, _) = b.as_chunks::<32>(); let mut difference = 0u8; "
+     "for (i, block) in blocks.iter().enumerate() { difference |= block_difference(block, &others[i]); } "
+     "for i in 32 * blocks.len()..a.len() { difference |= a[i] ^ b[i]; } difference == 0 }", "all octets are read, whatever they are"),
+    ("octets/src/lanes.rt", "block_difference", "{ (u8x32::from_array(*a) ^ u8x32::from_array(*b)).reduce_or() }", "all octets of two blocks"),
+    ("modes/src/gcm.rt", "gcm_open", "if buf.len() as u64 > LONGEST { return None; } let mut hash = aad_hash(cipher, aad); hash.feed(buf); "
+     "let tag_mask = tag_mask(cipher, iv); "
+     "let expected = tag_of(hash, &bit_length(aad.len() as u64), &bit_length(buf.len() as u64), &tag_mask,); "
+     "if !same_octets(&expected, tag) { return None; } KeyStream::start(&counter_block(iv, 2)).apply(cipher, buf); Some(buf.len()) }", "the tag of GCM"),
+    ("ciphers/src/cbc_hmac.rt", "open_cbc_hmac", "{ let mut authentication = Authentication::<H>::start(mac_key, iv, aad); "
+     "authentication.update(buf); let mut expected = [0; 32]; let len = authentication.finish(&mut expected); "
+     "if !same_octets(&expected[..len], tag) { return None; } cbc_open(cipher, &array(iv), buf) }", "the tag of AES-CBC with HMAC"),
+    ("tokens/src/verify/heads.rt", "is_one_of", "{ signatures.iter().any(|signature| same_octets(mac.octets(), signature.signature()) "
+     "&& is_alike(head, signature)) }", "the signature"),
     ("tokens/src/verify/detached.rt", "are_signed", "if signed != all { return signed; }", "whether a key signed, and whether each has to"),
-    ("tokens/src/decrypt/tried.rt", "open_alike", "(Some(one), Some(other)) => one.management == other.management && one.encryption == other.encryption,",
-     "the algorithms of two recipients"),
-    ("tokens/src/decrypt/tried.rt", "has_same_parameters", ") => p2c == other_p2c && same_octets(p2s.octets(), other_p2s.octets()),", "the counts of two recipients"),
-    ("ciphers/src/key_wrap.rt", "unwrap", "if a != INITIAL_VALUE { return None; }", "the constant that AES key wrap puts before the key"),
+    ("ciphers/src/key_wrap.rt", "is_initial", "{ same_octets(a, &INITIAL_VALUE) }", "the constant that AES key wrap puts before the key"),
     ("modes/src/cbc_opening.rt", "padding_of", "if last[i] != value { return None; }", "an octet of the padding; `ciphers` has compared the tag before"),
+    ("tokens/src/decrypt/tried.rt", "open_alike", "fn open_alike(one: &Recipient, other: &Recipient) -> bool { if one.encrypted_key().len() > MOST_ENCRYPTED_KEY { return false; } if "
+     "!same_octets(one.encrypted_key(), other.encrypted_key()) { return false; } if !has_same_parameters(one.management(), other.management()) { "
+     "return false; } match (algorithms_of(one), algorithms_of(other)) { (Some(one), Some(other)) => one.management == other.management && "
+     "one.encryption == other.encryption, _ => false, } }", "two recipients, before one is not tried again"),
+    ("tokens/src/decrypt/tried.rt", "has_same_parameters", "fn has_same_parameters(one: &KeyManagement, other: &KeyManagement) -> bool { match (one, other) { (KeyManagement::Direct, "
+     "KeyManagement::Direct) => true, (KeyManagement::KeyWrap, KeyManagement::KeyWrap) => true, (KeyManagement::Password { p2s, p2c }, "
+     "KeyManagement::Password { p2s: other_p2s, p2c: other_p2c, },) => p2c == other_p2c && same_octets(p2s.octets(), other_p2s.octets()), "
+     "(KeyManagement::GcmKeyWrap { iv, tag }, KeyManagement::GcmKeyWrap { iv: other_iv, tag: other_tag, },) => iv.octets().len() <= MOST_IV && "
+     "tag.octets().len() <= MOST_TAG && same_octets(iv.octets(), other_iv.octets()) && same_octets(tag.octets(), other_tag.octets()), "
+     "(KeyManagement::Unknown, _) | (KeyManagement::Direct, _) | (KeyManagement::KeyWrap, _) | (KeyManagement::Password { .. }, _) | "
+     "(KeyManagement::GcmKeyWrap { .. }, _) => false, } }", "the parameters of two recipients"),
+    ("tokens/src/decrypt/tried.rt", "was_tried", "fn was_tried(keys: &[Key], algorithms: Algorithms, key: &Key) -> bool { keys.iter().any(|earlier| { same_octets(earlier.octets(), "
+     "key.octets()) && is_candidate(algorithms, earlier) }) }", "two keys"),
+    ("tokens/src/decrypt/salted.rt", "SaltedKeys::salt", "fn salt(&mut self, p2s: &'x [u8]) { if same_octets(self.p2s, p2s) { return; } self.p2s = p2s; salt_each(&mut self.keys, p2s); }", "two salts"),
+    ("tokens/src/verify/heads.rt", "is_alike", "fn is_alike(head: &Signature, signature: &Signature) -> bool { same_octets(head.alg().as_bytes(), signature.alg().as_bytes()) && "
+     "same_octets(head.protected().as_bytes(), signature.protected().as_bytes(),) }", "the algorithms and the protected headers of two signatures"),
+    ("tokens/src/verify/signers.rt", "is_among", "fn is_among(block: &KeyBlock, others: &[KeyBlock]) -> bool { others.iter().any(|other| same_octets(block.octets(), other.octets())) }", "two keys, as HMAC uses them"),
 ]
 
+# The file that asks the system.
+WHOLE = "crates/jose/src/system.rt"
+# The parts of std that reach the system.
+WORLD = {"fs", "env", "os", "thread", "time", "process", "net", "sync"}
+# What keeps memory from being let go.
+KEPT = set("forget ManuallyDrop leak into_raw from_raw MaybeUninit transmute thread_local".split())
+# Devices that fail when they are told to, and the file that has them.
+FAILING, OF_FAILING = {"FailingInput", "FailingOutput", "Failing"}, "crates/octets/src/failing.rt"
+STATUSES = {"u8", "u32", "ExitCode"}
 CASES = {"Memory", "OutOfMemory", "Reading", "Writing"}
 ERRORS = {"AllocError", "AllocFailed", "Partial", "Error", "ErrorKind"}
 ENUMS = {"Refusal", "Fault", "ErrorKind", "DecodeAllocError"}
 # The names that must not get another name.
-NAMED = CASES | ERRORS | ENUMS | {"same_octets"}
+NAMED = CASES | ERRORS | ENUMS | {"same_octets", "Result"}
 ROOMS = set("""with_capacity with_capacity_and_hasher try_with_capacity reserve reserve_exact try_reserve try_reserve_exact resize resize_with
     try_resize_with repeat repeat_n repeat_with cycle from_elem from_fn from_iter extend extend_from_within unzip partition grow try_grow zeroed
     collect successors allocate spawn Box Rc Arc""".split())
@@ -184,6 +249,8 @@ ROOM_DEVICES = {"MemoryOutput", "FailingOutput"}
 # In a signature with a `Result`, these say that the function may take memory.
 MEMORY = {"Global", "Vec", "String", "Map", "HostRuntime", "self"}
 EQUALITIES = set("== != eq ne cmp partial_cmp starts_with ends_with contains strip_prefix strip_suffix simd_eq simd_ne".split())
+# What ends a side of a comparison, and what makes a sum of octets.
+ENDS, SUMS = {"if", "while", "&&", "||", "{", "}", ";", ",", "=", "return"}, {"^", "-", "wrapping_sub", "bitxor"}
 ANSWERS = set("""Ok Err ok err is_ok is_err is_ok_and is_err_and unwrap unwrap_or unwrap_or_else unwrap_or_default expect map_err map_or
     map_or_else or or_else and and_then iter into_iter""".split())
 
@@ -193,6 +260,11 @@ ADVICE = {
     "name": "it must have one name only; import it as it is, and write its path",
     "device": "a device passes failures on as they are; do without it, or add a row, and its file to PASSING",
     "room": "memory is asked for by what is there to be kept, and not by a number or in a loop without a list; do so, or add a row with what bounds it",
+    "kept": "what a call asked for is let go when it ends; do without it",
+    "all": "import the names that are used, each by itself",
+    "world": "the system is asked in system.rt alone; do without it, or add a row with what it asks",
+    "status": "a status is made from a refusal; make it so, or add a row",
+    "public": "the root exports the public names, each by itself; do so",
     "equality": "tags and signatures are compared by same_octets alone; use it, or add a row that says what else is compared",
     "answer": "what a file or a stream answers is passed on as it is; do so, or add a row that says what this answers",
 }
@@ -244,19 +316,16 @@ def is_trait(tokens, at):
     return before in (":", "+") or text_at(tokens, at + 1) == "for" or before == "::" and text_at(tokens, at - 2) in ("io", "fmt")
 
 
-def is_call(tokens, at):
-    """Whether `same_octets` of `octets` is called here."""
-    before = text_at(tokens, at - 1)
-    return text_at(tokens, at + 1) == "(" and before not in ("fn", ".") and (before != "::" or text_at(tokens, at - 2) == "octets")
-
-
 def is_of_numbers(tokens, at):
-    """Whether this comparison has a number or a length on one side, and no sum of octets on the other."""
-    start = at
-    while start and tokens[start - 1].text not in ("if", "while", "&&", "||", "{", "}", ";", ",", "=", "return"):
+    """Whether this comparison has a number or a length on one side, and no sum of octets on a side."""
+    start = end = at
+    while start and tokens[start - 1].text not in ENDS:
         start -= 1
+    while end + 1 < len(tokens) and tokens[end + 1].text not in ENDS:
+        end += 1
     left = [it.text for it in tokens[start:at]]
-    return "^" not in left and (left[-4:] == [".", "len", "(", ")"] or text_at(tokens, at + 1)[:1].isdigit() or left[-1:] and left[-1][:1].isdigit())
+    return not SUMS & {it.text for it in tokens[start:end + 1]} and (
+        left[-4:] == [".", "len", "(", ")"] or text_at(tokens, at + 1)[:1].isdigit() or left[-1:] and left[-1][:1].isdigit())
 
 
 def advice_at(part, at):
@@ -269,13 +338,23 @@ def advice_at(part, at):
         return "cause"
     if word in ("kind", "is_memory") and before == "." or word in ("Refusal", "Fault") and before_path(tokens, at) == "for":
         return "cause"
-    if word in ("Read", "Write", "Input", "Output") and after == "for":
+    if word in ("Read", "Write", "Input", "Output", "ReadFiles", "WriteFiles", "System") and after == "for":
         return "device"
     if word in ("Read", "Write") and not is_trait(tokens, at):
         return "cause"
     if word in ROOMS and not is_field or word in ROOM_MACROS and after == "!" or word in ROOM_DEVICES and after == "::":
         return "room"
-    if word == "same_octets" and not is_call(tokens, at) or word in EQUALITIES and crate in COMPARING and not is_of_numbers(tokens, at):
+    if word in KEPT:
+        return "kept"
+    if word in FAILING and part.path != OF_FAILING:
+        return "cause"
+    if word in WORLD and before == "::" and text_at(tokens, at - 2) == "std":
+        return "world"
+    if word[0].isdigit() and not re.match("0(_?[iu]|$)", word) and part.function and status_of(tokens) in STATUSES and crate in ("jose", "lakhdzeva"):
+        return "status"
+    if word == "mod" and before == "pub" and after != "laws":
+        return "public"
+    if word == "same_octets" or word in EQUALITIES and crate in COMPARING and not is_of_numbers(tokens, at):
         return "equality"
     return "answer" if word in ANSWERS and part.path.startswith(PASSING) else None
 
@@ -289,21 +368,35 @@ def words_to(tokens, at, *ends):
 
 
 def is_loop_without_list(tokens, at):
-    word = tokens[at].text
-    return word in LOOPS or word == "for" and not {"..", "..="}.isdisjoint(words_to(tokens, at, "{"))
+    """Whether a loop counts, goes through an array that it writes out, or does not name its items."""
+    word, words = tokens[at].text, words_to(tokens, at, "{") if tokens[at].text == "for" else []
+    return word in LOOPS or bool(words) and (words[1][0] == "_" or words[words.index("in") + 1] == "[" or not {"..", "..="}.isdisjoint(words))
+
+
+def status_of(tokens):
+    """The type that a function returns, if it is one word."""
+    signature = words_to(tokens, 0, "{", ";")
+    return signature[-1] if signature[-2:-1] == ["->"] else ""
 
 
 def needing_rows(part):
     """The places of a part of the code that need a row: where, what, and the advice for one that has none."""
     tokens, at = part.tokens, 0
     signature = words_to(tokens, 0, "{", ";") if part.function else []
+    if part.function and tokens[-1].text != ";" and (part.path == WHOLE or "HostRuntime" in signature):
+        yield 0, part.function, "world"
     if signature[-2:] == ["->", "bool"] and " ".join(signature).count("[ u8") > 1:
         yield 0, "octets twice", "equality"
     while at < len(tokens):
         if tokens[at].text in ("use", "type"):
             end = next((it for it in range(at, len(tokens)) if tokens[it].text == ";"), len(tokens))
-            if what := renamed([it.text for it in tokens[at:end]]):
+            words = [it.text for it in tokens[at:end]]
+            if what := renamed(words):
                 yield at, what, "name"
+            if words[-1] == "*" and words[1:-1] != ["std", "::", "simd", "::", "prelude", "::"]:
+                yield at, "*", "all"
+            if KEPT & set(words) or words[1:3] == ["std", "::"] and WORLD & set(words):
+                yield at, " ".join(words[1:]), "kept" if KEPT & set(words) else "world"
             at = end
         elif advice := advice_at(part, at):
             yield at, tokens[at].text, advice
@@ -332,7 +425,7 @@ def compare():
     rows, without = collections.defaultdict(dict), []
     for path, function, code, _ in PLACES:
         rows[f"crates/{path}", function][code] = 0
-    for part in (it for crate in CRATES for it in parts(crate)):
+    for part in (it for crate in (*CRATES, "command") for it in parts(crate)):
         covered, counts, left = set(), rows.get((part.path, part.function), {}), collections.defaultdict(list)
         for code in counts:
             places, count = found_in(part, code)

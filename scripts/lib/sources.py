@@ -3,7 +3,7 @@
 `parts` leaves out comments, clauses, code that serves clauses alone, and tests, which are the modules under `#[cfg(test)]`. `functions` has
 the functions of a file with their contracts. `page_of` has the definitions of a page, and `imports` what the names of a file mean.
 """
-import collections, os, re
+import collections, functools, os, re
 
 from lib.trial import TOP
 
@@ -49,10 +49,12 @@ def read(path):
 
 
 def files(crate, folder, end):
-    """The paths below a folder of a crate that have this end. Files of tests alone are left out."""
-    top = os.path.join(ROOT, "crates", crate, folder)
+    """The paths below a folder of a crate that have this end. The modules of tests are left out."""
+    top, tests = os.path.join(ROOT, "crates", crate, folder), tests_of(crate) if folder == "src" else ()
     for at, _, names in sorted(os.walk(top)):
-        yield from (os.path.relpath(os.path.join(at, it), top) for it in sorted(names) if it.endswith(end) and not it.endswith("tests.rt"))
+        for path in (os.path.join(at, it) for it in sorted(names) if it.endswith(end)):
+            if not is_below(path, tests):
+                yield os.path.relpath(path, top)
 
 
 def tokens_of(text):
@@ -149,17 +151,31 @@ def parts_of(path, code):
     yield Part(path, "", outside)
 
 
-def parts(crate):
-    """The code of a crate, part by part."""
-    folder, tests = os.path.join(ROOT, "crates", crate, "src"), []
+def is_below(path, modules):
+    return any(path == f"{it}.rt" or path.startswith(f"{it}/") for it in modules)
+
+
+@functools.cache
+def code_by_file(crate):
+    """The code of each file of a crate that is no test, and the paths of the modules that are tests, without their endings."""
+    folder, found, tests = os.path.join(ROOT, "crates", crate, "src"), {}, []
     paths = [os.path.join(at, name) for at, _, names in os.walk(folder) for name in names if name.endswith(".rt")]
     # The file of a module comes before the files of the modules that it names.
     for path in sorted(paths, key=lambda it: (it.count("/"), not it.endswith(("/lib.rt", "/main.rt", "/mod.rt")), it)):
-        if any(path == f"{it}.rt" or path.startswith(f"{it}/") for it in tests):
-            continue
-        code, of_tests = code_of(tokens_of(read(path)))
-        room = path[:-len(".rt")] if not path.endswith(("/lib.rt", "/main.rt", "/mod.rt")) else os.path.dirname(path)
-        tests += [os.path.join(room, it) for it in of_tests]
+        if not is_below(path, tests):
+            found[path], of_tests = code_of(tokens_of(read(path)))
+            room = path[:-len(".rt")] if not path.endswith(("/lib.rt", "/main.rt", "/mod.rt")) else os.path.dirname(path)
+            tests += [os.path.join(room, it) for it in of_tests]
+    return found, tests
+
+
+def tests_of(crate):
+    return code_by_file(crate)[1]
+
+
+def parts(crate):
+    """The code of a crate, part by part."""
+    for path, code in code_by_file(crate)[0].items():
         yield from parts_of(os.path.relpath(path, ROOT), code)
 
 

@@ -30,13 +30,17 @@ port() {
 
 # link TARGET NEW WORDS..: links out/static/TARGET/jose.o with the C that stands for Rattle's own, with these words, and with glibc into a
 # program that needs no library, has no fixed address, and has relocations that are read-only when it starts. The kit has this C for x86_64.
-# For others, and if $ported is set, it is static/port.c.
+# For others, and if $ported is set, it is static/port.c. The program for x86_64 tests its processor first (static/processor.c).
 link() {
     local target=$1 new=$2 object=out/static/$1/jose.o status=0 ours=() given=()
     shift 2
+    if [ "$target" = x86_64 ]; then
+        ours+=("$(mktemp --suffix=.o)")
+        "$compile" -std=gnu11 -O2 -fPIE -Wall -Wextra -Wpedantic -Werror -c static/processor.c -o "${ours[-1]}" || status=1
+    fi
     if [ "$target" != x86_64 ] || [ -n "${ported-}" ]; then
-        ours=("$(mktemp --suffix=.o)")
-        port "$object" "${ours[0]}" || status=1
+        ours+=("$(mktemp --suffix=.o)")
+        port "$object" "${ours[-1]}" || status=1
     else
         given=("$(dirname "$(rt doc)")"/c/{libos_c.a,liblibc_c.a})
     fi
@@ -48,7 +52,7 @@ link() {
 
 # sources: prints a checksum of all that the static programs are made from. A release takes no program that was made from other sources.
 sources() {
-    find crates static crates.txt scripts/build scripts/build-static scripts/lib/static.bash -name out -prune -o -type f -print0 | LC_ALL=C sort -z | xargs -0 sha256sum | sha256sum
+    find crates static bindings/c/lakhdzeva.* crates.txt scripts/build scripts/build-static scripts/lib/{static,library}.bash scripts/lib/processor -name out -prune -o -type f -print0 | LC_ALL=C sort -z | xargs -0 sha256sum | sha256sum
 }
 
 # is_built TARGET: ends with 0 if out/static/TARGET has the files that `make static` made from these sources.

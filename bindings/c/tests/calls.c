@@ -7,6 +7,7 @@
 
 #include <limits.h>
 #include <pthread.h>
+#include <stdbool.h>
 #include <stdio.h>
 #include <stdlib.h>
 #include <string.h>
@@ -182,7 +183,7 @@ static uint32_t verify_detached(const struct lent *lent) { return lakhdzeva_veri
 static uint32_t verify_all(const struct lent *lent) { return lakhdzeva_verify_all(LENT(1), 1, LENT(2), LENT(0), to_count[0]); }
 static uint32_t verify_all_detached(const struct lent *lent) { return lakhdzeva_verify_all_detached(LENT(0), 1, LENT(1), LENT(2)); }
 static uint32_t decrypt(const struct lent *lent) { return lakhdzeva_decrypt(LENT(1), LENT(2), LENT(3), UINT64_MAX, LENT(0), to_count[0]); }
-static uint32_t encrypt(const struct lent *lent) {
+static uint32_t encrypt_by_system(const struct lent *lent) {
     return lakhdzeva_encrypt(LENT(2), LENT(3), asked, LENT(4), LENT(0), to_count[0], LENT(1), to_count[1]);
 }
 static uint32_t encrypt_with_random(const struct lent *lent) {
@@ -205,7 +206,7 @@ static const struct {
     {"generate", generate, 1, 2, NO_FLAGS}, {"generate_with_random", generate_with_random, 1, 3, NO_FLAGS},
     {"thumbprints", thumbprints, 1, 2, NO_FLAGS}, {"sign", sign, 1, 4, FORMS}, {"verify", verify, 1, 3, LAKHDZEVA_ALL},
     {"verify_detached", verify_detached, 0, 3, LAKHDZEVA_ALL}, {"verify_all", verify_all, 1, 3, NO_FLAGS},
-    {"verify_all_detached", verify_all_detached, 0, 3, NO_FLAGS}, {"decrypt", decrypt, 1, 4, NO_FLAGS}, {"encrypt", encrypt, 2, 5, FORMS},
+    {"verify_all_detached", verify_all_detached, 0, 3, NO_FLAGS}, {"decrypt", decrypt, 1, 4, NO_FLAGS}, {"encrypt", encrypt_by_system, 2, 5, FORMS},
     {"encrypt_with_random", encrypt_with_random, 2, 6, FORMS}, {"format_signed", format_signed, 2, 4, FORMS},
     {"format_encrypted", format_encrypted, 2, 4, FORMS},
 };
@@ -525,6 +526,7 @@ static void try_threads(void) {
 }
 
 int main(void) {
+    check("the version", !strcmp(lakhdzeva_version(), VERSION));
     for (uint32_t status = 0; status < 20; status++) {
         static const char *const names[] = {"Ok", "Usage", "Read", "Write", "Memory", "Random", "Base64", "Json", "Number", "Key", "Form", "Header",
             "Unsupported", "NoAlgorithm", "KeyDoesNotFit", "Limit", "NotCompact", "NotOpened", "Unknown", "Unknown"};

@@ -9,6 +9,7 @@
 #include "lakhdzeva.h"
 
 #include <fcntl.h>
+#include <stdbool.h>
 #include <stdio.h>
 #include <stdlib.h>
 #include <string.h>
@@ -313,8 +314,8 @@ int main(int count, char **given) {
         judge_streams("ikIR", "oO", "Io");
         text = input('i', "{}");
         keys = input('k', NULL);
-        /* As the header does, it draws as many octets as can be needed. */
-        random_octets = drawn(80 + 16 * lakhdzeva_most_keys_(keys.length, LAKHDZEVA_LEAST_KEY_));
+        /* A content encryption key, an initialization vector and 64 salts: no object needs more octets. */
+        random_octets = drawn(64 + 16 + 64 * 16);
         content = input('I', "-");
         flags |= values['O'] ? LAKHDZEVA_DETACH : 0U;
         make(encrypt, &one, &other, lakhdzeva_encrypt_room(keys.length, text.length, content.length), values['O'] ? lakhdzeva_ciphertext_room(content.length) : 0);

@@ -21,6 +21,7 @@ import subprocess
 import sys
 import threading
 import time
+import tracemalloc
 import unittest
 from concurrent.futures import ThreadPoolExecutor
 from pathlib import Path
@@ -136,6 +137,18 @@ THIRD = bytes(range(64, 96))
 A128 = key_of(bytes(16))
 
 
+def with_random(octets):
+    """The functions of the module get these random octets in place of those of the system."""
+
+    def of(name, at):
+        own = getattr(lakhdzeva, "_" + name)
+        arguments = own.argtypes
+        function = lakhdzeva._function(name + "_with_random", *arguments[:at], ctypes.c_char_p, ctypes.c_size_t, *arguments[at:])
+        return lambda *given: function(*given[:at], octets, len(octets), *given[at:])
+
+    return mock.patch.multiple(lakhdzeva, _generate=of("generate", 2), _encrypt=of("encrypt", 5))
+
+
 class Case(unittest.TestCase):
     def refused(self, number, name, function, *arguments, **options):
         with self.assertRaises(Refused) as caught:
@@ -163,7 +176,7 @@ class Standards(Case):
             self.assertEqual(lakhdzeva.decrypt(RFC7516_KEY, token), LINE)
 
     def test_rfc7516_appendix_a3_is_encrypted(self):
-        with mock.patch("os.urandom", lambda length: RFC7516_RANDOM.ljust(length, b"\0")):
+        with with_random(RFC7516_RANDOM):
             self.assertEqual(lakhdzeva.encrypt(RFC7516_KEY, LINE, {"protected": {"enc": "A128CBC-HS256"}}), RFC7516_A3)
 
     def test_rfc7516_appendices_a4_and_a5_decrypt(self):
@@ -213,35 +226,17 @@ class Keys(Case):
             self.assertEqual((key["kty"], key["alg"], key["kid"], len(unb64(key["k"]))), ("oct", name, "\u00e9", size))
         self.assertEqual(lakhdzeva.generate(b'{"alg":"HS256"}')["key_ops"], ["sign", "verify"])
 
-    def test_octets_of_a_key_are_those_of_the_system(self):
-        for size, drawn in ((1, [64]), (64, [64]), (65, [64, 4096]), (4096, [64, 4096])):
-            asked = []
-            octets = os.urandom(4096)
-
-            def urandom(length):
-                asked.append(length)
-                return octets[:length]
-
-            with mock.patch("os.urandom", urandom):
+    def test_octets_of_a_key_are_the_random_ones(self):
+        octets = os.urandom(4096)
+        for size in (1, 64, 65, 4096):
+            with with_random(octets):
                 self.assertEqual(lakhdzeva.generate({"bytes": size}), key_of(octets[:size]))
-            self.assertEqual(asked, drawn)
 
     def test_two_keys_differ(self):
         self.assertNotEqual(lakhdzeva.generate('{"bytes":32}'), lakhdzeva.generate('{"bytes":32}'))
 
-    def test_octets_of_a_token_are_those_of_the_system(self):
-        for keys, text in (([A128], 1), ([A128] * 3, 3), ([A128] * 64, 64)):
-            asked = []
-
-            def urandom(length):
-                asked.append(length)
-                return bytes(length)
-
-            with mock.patch("os.urandom", urandom):
-                lakhdzeva.encrypt(keys, b"", compact=False)
-            self.assertEqual(len(asked), 1)
-            self.assertGreaterEqual(asked[0], 80 + 16 * text)
-            self.assertLessEqual(asked[0], 80 + 16 * 64)
+    def test_two_tokens_differ(self):
+        self.assertNotEqual(lakhdzeva.encrypt(A128, b""), lakhdzeva.encrypt(A128, b""))
 
 
 class Refusals(Case):
@@ -249,22 +244,12 @@ class Refusals(Case):
         self.refused(1, "Usage", lakhdzeva.thumbprint, A128, "S1")
         self.refused(1, "Usage", lakhdzeva.thumbprints, [A128], "sha256")
 
-    def test_3_write(self):
-        calls = []
-        with self.assertRaises(Refused) as caught:
-            lakhdzeva._written(lambda *arguments: calls.append(arguments) or 3, (), 10)
-        self.assertEqual((caught.exception.number, len(calls)), (3, 2))
-        with self.assertRaises(Refused) as caught:
-            lakhdzeva._both_written(lambda *arguments: calls.append(arguments) or 3, (), 10, 10)
-        self.assertEqual((caught.exception.number, len(calls)), (3, 4))
-
     def test_5_random(self):
-        for failure in (OSError(), NotImplementedError()):
-            with mock.patch("os.urandom", side_effect=failure):
-                self.refused(5, "Random", lakhdzeva.generate, {"alg": "HS256"})
-                self.refused(5, "Random", lakhdzeva.encrypt, A128, b"")
-                # An earlier cause is reported first.
-                self.refused(13, "NoAlgorithm", lakhdzeva.generate)
+        with with_random(b""):
+            self.refused(5, "Random", lakhdzeva.generate, {"alg": "HS256"})
+            self.refused(5, "Random", lakhdzeva.encrypt, A128, b"")
+            # An earlier cause is reported first.
+            self.refused(13, "NoAlgorithm", lakhdzeva.generate)
 
     def test_6_base64(self):
         self.refused(6, "Base64", lakhdzeva.verify, A128, "e30.!.AA")
@@ -403,7 +388,7 @@ class Contents(Case):
         self.assertEqual(lakhdzeva.format_encrypted(RFC7516_A3, compact=True, detach=True), (detached, ciphertext))
         self.assertEqual(lakhdzeva.format_encrypted(detached, compact=True, ciphertext=ciphertext), RFC7516_A3)
         self.assertEqual(lakhdzeva.decrypt(RFC7516_KEY, detached, ciphertext=ciphertext), LINE)
-        with mock.patch("os.urandom", lambda length: RFC7516_RANDOM.ljust(length, b"\0")):
+        with with_random(RFC7516_RANDOM):
             made = lakhdzeva.encrypt(RFC7516_KEY, LINE, {"protected": {"enc": "A128CBC-HS256"}}, detach=True)
         self.assertEqual(made, (detached, ciphertext))
 
@@ -411,6 +396,23 @@ class Contents(Case):
         octets = bytearray(b"abcdefgh")
         token = lakhdzeva.sign(key_of(FIRST), memoryview(octets)[1:7:2])
         self.assertEqual(token, token_of(FIRST, '{"alg":"HS256"}', b"bdf"))
+
+    def test_no_content_is_kept(self):
+        content = bytearray(1 << 20)
+        tracemalloc.start()
+        for _ in range(2):
+            before = tracemalloc.get_traced_memory()[0]
+            token = lakhdzeva.sign(RFC7515_KEY, content, detach=True)
+            lakhdzeva.verify(RFC7515_KEY, token, payload=content)
+            lakhdzeva.verify_all(RFC7515_KEY, 1, token, payload=content)
+            lakhdzeva.verify(RFC7515_KEY, lakhdzeva.format_signed(token, payload=content))
+            token, ciphertext = lakhdzeva.encrypt(A128, content, detach=True)
+            lakhdzeva.decrypt(A128, token, ciphertext=bytearray(ciphertext))
+            lakhdzeva.decrypt(A128, lakhdzeva.format_encrypted(token, ciphertext=bytearray(ciphertext)))
+            del token, ciphertext
+        kept = tracemalloc.get_traced_memory()[0] - before
+        tracemalloc.stop()
+        self.assertLess(kept, len(content) // 2)
 
 
 class Sets(Case):
@@ -741,7 +743,7 @@ class Lies(Case):
 
     def answer(self, function, arguments):
         """What the function gives, or its refusal, with random octets that are always the same."""
-        with mock.patch("os.urandom", lambda length: bytes(range(256)) * 20):
+        with with_random(bytes(range(256)) * 20):
             try:
                 return function(**arguments)
             except Refused as refused:
@@ -941,26 +943,26 @@ class Types(Case):
         self.assertEqual(sorted(lakhdzeva.__all__), public.split())
 
 
-class Core(Case):
-    """The functions of the shared library, and the rooms of this module."""
+class Library(Case):
+    """The functions of the shared library, and the rooms of their answers."""
 
     def calls(self):
-        """For each function with places: its arguments, and the rooms of its places."""
-        text, wanted, octets = json.dumps(key_of(FIRST)).encode(), b"{}", b"0123456789"
-        wrap = json.dumps(A128).encode()
-        signed, a3, random = RFC7515_A1.encode(), RFC7516_A3.encode(), bytes(4096)
+        """For each function with places: its arguments, and how many places it has."""
+        text, octets, flags = json.dumps(key_of(FIRST)).encode(), b"0123456789", lakhdzeva._COMPACT
+        wrap, detach = json.dumps(A128).encode(), lakhdzeva._DETACH
+        signed, a3 = RFC7515_A1.encode(), RFC7516_A3.encode()
         rfc7515, rfc7516 = RFC7515_KEY.encode(), RFC7516_KEY.encode()
         size = b'{"bytes":20}'
         return {
-            "generate": ((size, len(size), random, 64), 1),
+            "generate": ((size, len(size)), 1),
             "thumbprints": ((text, len(text), 256), 1),
-            "sign": ((text, len(text), wanted, 2, True, False, octets, 10), 1),
-            "verify": ((rfc7515, len(rfc7515), signed, len(signed), False), 1),
+            "sign": ((text, len(text), None, 0, flags, octets, 10), 1),
+            "verify": ((rfc7515, len(rfc7515), signed, len(signed), 0), 1),
             "verify_all": ((rfc7515, len(rfc7515), 1, signed, len(signed)), 1),
-            "format_signed": ((signed, len(signed), False, b"", 0, False, True), 2),
-            "encrypt": ((wrap, len(wrap), wanted, 2, True, True, random, 1104, octets, 10), 2),
-            "decrypt": ((rfc7516, len(rfc7516), a3, len(a3), False, b"", 0, 0), 1),
-            "format_encrypted": ((a3, len(a3), False, b"", 0, False, True), 2),
+            "format_signed": ((signed, len(signed), None, 0, detach), 2),
+            "encrypt": ((wrap, len(wrap), None, 0, flags | detach, octets, 10), 2),
+            "decrypt": ((rfc7516, len(rfc7516), a3, len(a3), None, 0, 0), 1),
+            "format_encrypted": ((a3, len(a3), None, 0, detach), 2),
         }
 
     def call(self, name, arguments, rooms):
@@ -970,7 +972,8 @@ class Core(Case):
         rest = []
         for place, room, length in zip(places, rooms, lengths):
             rest += [(ctypes.c_char * len(place)).from_buffer(place), room, ctypes.byref(length)]
-        status = getattr(lakhdzeva, "_" + name)(*arguments, *rest)
+        with with_random(bytes(4096)):
+            status = getattr(lakhdzeva, "_" + name)(*arguments, *rest)
         return status, [length.value for length in lengths], [bytes(place) for place in places]
 
     def test_a_place_that_is_one_octet_too_small(self):
@@ -999,35 +1002,26 @@ class Core(Case):
 
     def test_too_few_random_octets(self):
         template, wrap = b'{"bytes":20}', json.dumps(A128).encode()
-        for count in (0, 1, 19, 20):
-            status, lengths, _ = self.call("generate", (template, len(template), bytes(count), count), [5000])
-            self.assertEqual(status, 0 if count == 20 else 5)
-            self.assertEqual(lengths[0] > 0, count == 20)
+        for count in (0, 19, 20):
+            with with_random(bytes(count)):
+                status = lakhdzeva._generate(template, len(template), *lakhdzeva._Place(5000).arguments())
+                self.assertEqual(status, 0 if count == 20 else 5)
         # A key of 32 octets and an initialization vector of 16, for A128CBC-HS256.
         for count in (0, 32, 47, 48):
-            arguments = (wrap, len(wrap), b"{}", 2, True, False, bytes(count), count, b"", 0)
-            self.assertEqual(self.call("encrypt", arguments, [5000, 0])[0], 0 if count == 48 else 5)
+            with with_random(bytes(count)):
+                status = lakhdzeva._encrypt(wrap, len(wrap), None, 0, 0, b"", 0, *lakhdzeva._Place(5000).arguments(), None, 0, None)
+                self.assertEqual(status, 0 if count == 48 else 5)
 
     def test_a_content_that_is_not_detached_needs_no_place(self):
         for name in ("format_signed", "encrypt", "format_encrypted"):
             arguments, _ = self.calls()[name]
-            if name == "encrypt":
-                arguments = arguments[:5] + (False,) + arguments[6:]
-            else:
-                arguments = arguments[:-1] + (False,)
+            at = 4  # Where the flags are.
+            arguments = arguments[:at] + (0,) + arguments[at + 1 :]
             status, lengths, places = self.call(name, arguments, [5000, 0])
             self.assertEqual((status, lengths[1], places[1]), (0, 0, b"\xaa"), name)
 
-    def test_a_wrong_room_is_mended_once(self):
-        token = token_of(FIRST, '{"alg":"HS256"}', b"text")
-        with mock.patch.object(lakhdzeva, "_sign_room", lambda *lengths: 1):
-            self.assertEqual(lakhdzeva.sign(key_of(FIRST), b"text"), token)
-        with mock.patch.object(lakhdzeva, "_ciphertext_room", lambda *lengths: 1):
-            made, ciphertext = lakhdzeva.encrypt(A128, b"text", detach=True)
-            self.assertEqual(lakhdzeva.decrypt(A128, made, ciphertext=ciphertext), b"text")
-
-    def never_small(self):
-        """Fails if a call is made again because a place was too small."""
+    def counted(self):
+        """The rooms of the places of a call."""
         places = []
         made = lakhdzeva._Place.__init__
 
@@ -1038,7 +1032,7 @@ class Core(Case):
         return mock.patch.object(lakhdzeva._Place, "__init__", counted), places
 
     def test_rooms_suffice(self):
-        patch, places = self.never_small()
+        patch, places = self.counted()
 
         def check(count, function, *arguments, **options):
             places.clear()
@@ -1050,9 +1044,9 @@ class Core(Case):
         with patch:
             for size in (1, 2, 3, 63, 64, 65, 4094, 4095, 4096):
                 for more in ({}, long):
-                    check(1 + (size > 64), lakhdzeva.generate, {"bytes": size, **more})
+                    check(1, lakhdzeva.generate, {"bytes": size, **more})
             for name in ("PBES2-HS256+A128KW", "PBES2-HS384+A192KW"):
-                check(2, lakhdzeva.generate, {"bytes": 4096, "alg": name})
+                check(1, lakhdzeva.generate, {"bytes": 4096, "alg": name})
             for count in (1, 2, 3, 63, 64):
                 least = ['{"k":"AA","kty":"oct"}'] * count
                 for text in ('{"keys":[%s]}' % ",".join(least), [key_of(b"\0")] * count):
@@ -1097,7 +1091,7 @@ class Core(Case):
 
     def test_rooms_of_a_long_template(self):
         """A room is not many times the length of the answer: a signature repeats the template, and a recipient does not."""
-        patch, places = self.never_small()
+        patch, places = self.counted()
         wanted = {"protected": {"a": "b" * 100000}}
         for count in (1, 20, 64):
             keys = [key_of(FIRST, alg="HS256")] * count

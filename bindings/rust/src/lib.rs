@@ -31,7 +31,8 @@
 //! - If a name is repeated in a JSON object, the last one counts.
 //! - An object takes at most 8 times its length in memory, and JSON of many small objects 270 times. So limit the length of a stranger's
 //!   text.
-//! - Memory that held keys and plaintext is not wiped, and the timing of AES, which uses tables, depends on the key.
+//! - The library wipes the memory that it used. Your own is not wiped: slices, and the vectors of answers.
+//! - The timing of reading a key's text depends on the key.
 //!
 //! # What the caller owes
 //!
@@ -42,17 +43,11 @@
 //!   pass, or call in a process of its own.
 #![deny(missing_docs, unsafe_code, unsafe_op_in_unsafe_fn)]
 
-mod answers;
 #[allow(unsafe_code)]
 mod calls;
-#[allow(unsafe_code)]
-mod random;
 mod refusal;
-mod rooms;
 
 pub use crate::refusal::Refusal;
-
-use crate::answers::{answer, answers, same_place};
 
 /// The serialization of an object that is written.
 #[derive(Clone, Copy, Debug, PartialEq, Eq, Hash)]
@@ -63,6 +58,16 @@ pub enum Form {
     Compact,
 }
 
+impl Form {
+    /// The flag of the header.
+    const fn flag(self) -> u32 {
+        match self {
+            Form::Json => 0,
+            Form::Compact => calls::COMPACT,
+        }
+    }
+}
+
 /// The keys that must have signed an object.
 #[derive(Clone, Copy, Debug, PartialEq, Eq, Hash)]
 pub enum Signers {
@@ -70,6 +75,16 @@ pub enum Signers {
     One,
     /// Each of the valid keys. It does not count signers: [`verify_all`] does.
     All,
+}
+
+impl Signers {
+    /// The flag of the header.
+    const fn flag(self) -> u32 {
+        match self {
+            Signers::One => 0,
+            Signers::All => calls::ALL,
+        }
+    }
 }
 
 /// The hash of a thumbprint (FIPS 180-4).
@@ -114,18 +129,7 @@ impl Hash {
 /// # Ok::<(), Refusal>(())
 /// ```
 pub fn generate(wanted: &[u8]) -> Result<Vec<u8>, Refusal> {
-    answer(rooms::generate(wanted.len()), |mut place| {
-        let mut random = [0; 4096];
-        let mut status = Refusal::Random.number();
-        // An algorithm asks for at most 64 octets, and a template for at most 4,096.
-        for most in [64, random.len()] {
-            if status == Refusal::Random.number() {
-                let octets = random_octets(&mut random[..most]);
-                status = calls::generate(wanted, octets, same_place(&mut place));
-            }
-        }
-        status
-    })
+    calls::generate(wanted)
 }
 
 /// The thumbprints of the valid keys of a text, in their order, with a line feed between each two (RFC 7638).
@@ -143,9 +147,7 @@ pub fn generate(wanted: &[u8]) -> Result<Vec<u8>, Refusal> {
 /// # Ok::<(), Refusal>(())
 /// ```
 pub fn thumbprints(keys: &[u8], hash: Hash) -> Result<String, Refusal> {
-    let lines = answer(rooms::thumbprints(keys.len()), |place| {
-        calls::thumbprints(keys, hash.bits(), place)
-    })?;
+    let lines = calls::thumbprints(keys, hash.bits())?;
     Ok(String::from_utf8(lines).expect("thumbprints are base64url texts and line feeds"))
 }
 
@@ -168,10 +170,7 @@ pub fn thumbprints(keys: &[u8], hash: Hash) -> Result<String, Refusal> {
 /// # Ok::<(), Refusal>(())
 /// ```
 pub fn sign(keys: &[u8], wanted: &[u8], form: Form, payload: &[u8]) -> Result<Vec<u8>, Refusal> {
-    let room = rooms::sign(keys.len(), wanted.len(), payload.len());
-    answer(room, |place| {
-        calls::sign(keys, wanted, form == Form::Compact, false, payload, place)
-    })
+    calls::sign(keys, wanted, form.flag(), payload)
 }
 
 /// Signs the payload with each of the keys, and returns the object without the payload (RFC 7515 appendix F).
@@ -192,10 +191,7 @@ pub fn sign_detached(
     form: Form,
     payload: &[u8],
 ) -> Result<Vec<u8>, Refusal> {
-    let room = rooms::sign(keys.len(), wanted.len(), 0);
-    answer(room, |place| {
-        calls::sign(keys, wanted, form == Form::Compact, true, payload, place)
-    })
+    calls::sign(keys, wanted, form.flag() | calls::DETACH, payload)
 }
 
 /// Verifies the object, and returns its payload (RFC 7515 section 5.2).
@@ -227,9 +223,7 @@ pub fn sign_detached(
 /// # Ok::<(), Refusal>(())
 /// ```
 pub fn verify(keys: &[u8], object: &[u8], signers: Signers) -> Result<Vec<u8>, Refusal> {
-    answer(rooms::verify(object.len()), |place| {
-        calls::verify(keys, object, signers == Signers::All, place)
-    })
+    calls::verify(keys, object, signers.flag())
 }
 
 /// Verifies the object with this payload, which is not in the object (RFC 7515 appendix F).
@@ -250,12 +244,7 @@ pub fn verify_detached(
     signers: Signers,
     payload: &[u8],
 ) -> Result<(), Refusal> {
-    Refusal::of_status(calls::verify_detached(
-        keys,
-        object,
-        signers == Signers::All,
-        payload,
-    ))
+    calls::verify_detached(keys, object, signers.flag(), payload)
 }
 
 /// Verifies that each key of the set signed the object, and returns its payload. The text has exactly so many keys as there are `signers`.
@@ -282,9 +271,7 @@ pub fn verify_detached(
 /// # Ok::<(), Refusal>(())
 /// ```
 pub fn verify_all(keys: &[u8], signers: usize, object: &[u8]) -> Result<Vec<u8>, Refusal> {
-    answer(rooms::verify(object.len()), |place| {
-        calls::verify_all(keys, signers, object, place)
-    })
+    calls::verify_all(keys, signers, object)
 }
 
 /// Verifies that each key of the set signed the object with this payload, which is not in the object (RFC 7515 appendix F).
@@ -306,7 +293,7 @@ pub fn verify_all_detached(
     object: &[u8],
     payload: &[u8],
 ) -> Result<(), Refusal> {
-    Refusal::of_status(calls::verify_all_detached(keys, signers, object, payload))
+    calls::verify_all_detached(keys, signers, object, payload)
 }
 
 /// Encrypts the plaintext to each of the keys, and returns the object (RFC 7516 section 5.1).
@@ -340,9 +327,7 @@ pub fn encrypt(
     form: Form,
     plaintext: &[u8],
 ) -> Result<Vec<u8>, Refusal> {
-    let room = rooms::encrypt(keys.len(), wanted.len(), plaintext.len());
-    let (object, _) = encrypt_with(keys, wanted, form, false, plaintext, room, 0)?;
-    Ok(object)
+    Ok(calls::encrypt(keys, wanted, form.flag(), plaintext)?.0)
 }
 
 /// Encrypts the plaintext to each of the keys, and returns the object without its ciphertext, and the ciphertext.
@@ -367,9 +352,7 @@ pub fn encrypt_detached(
     form: Form,
     plaintext: &[u8],
 ) -> Result<(Vec<u8>, Vec<u8>), Refusal> {
-    let room = rooms::encrypt(keys.len(), wanted.len(), 0);
-    let content_room = rooms::ciphertext(plaintext.len());
-    encrypt_with(keys, wanted, form, true, plaintext, room, content_room)
+    calls::encrypt(keys, wanted, form.flag() | calls::DETACH, plaintext)
 }
 
 /// Decrypts the object with one of the keys, and returns the plaintext (RFC 7516 section 5.2). It tries no password:
@@ -432,10 +415,7 @@ pub fn decrypt_with_iterations(
     ciphertext: Option<&[u8]>,
     iterations: u64,
 ) -> Result<Vec<u8>, Refusal> {
-    let room = rooms::decrypt(object.len(), length_of(ciphertext));
-    answer(room, |place| {
-        calls::decrypt(keys, object, ciphertext, iterations, place)
-    })
+    calls::decrypt(keys, object, ciphertext, iterations)
 }
 
 /// Writes a signed object in this form (RFC 7515 section 7). It sees no key and verifies nothing. Unknown members are left out.
@@ -458,11 +438,7 @@ pub fn format_signed(
     payload: Option<&[u8]>,
     form: Form,
 ) -> Result<Vec<u8>, Refusal> {
-    let room = rooms::format(object.len(), length_of(payload));
-    let (text, _) = answers(room, 0, |text, content| {
-        calls::format_signed(object, payload, form == Form::Compact, false, text, content)
-    })?;
-    Ok(text)
+    Ok(calls::format_signed(object, payload, form.flag())?.0)
 }
 
 /// Writes a signed object in this form without its payload, and returns it and the payload (RFC 7515 appendix F). It verifies nothing.
@@ -482,12 +458,7 @@ pub fn format_signed_detached(
     payload: Option<&[u8]>,
     form: Form,
 ) -> Result<(Vec<u8>, Vec<u8>), Refusal> {
-    let length = length_of(payload);
-    let room = rooms::format(object.len(), 0);
-    let content_room = rooms::content(object.len(), length);
-    answers(room, content_room, |text, content| {
-        calls::format_signed(object, payload, form == Form::Compact, true, text, content)
-    })
+    calls::format_signed(object, payload, form.flag() | calls::DETACH)
 }
 
 /// Writes an encrypted object in this form (RFC 7516 section 7). It sees no key and decrypts nothing. Unknown members are left out.
@@ -510,12 +481,7 @@ pub fn format_encrypted(
     ciphertext: Option<&[u8]>,
     form: Form,
 ) -> Result<Vec<u8>, Refusal> {
-    let room = rooms::format(object.len(), length_of(ciphertext));
-    let (text, _) = answers(room, 0, |text, content| {
-        let compact = form == Form::Compact;
-        calls::format_encrypted(object, ciphertext, compact, false, text, content)
-    })?;
-    Ok(text)
+    Ok(calls::format_encrypted(object, ciphertext, form.flag())?.0)
 }
 
 /// Writes an encrypted object in this form without its ciphertext, and returns it and the ciphertext. It decrypts nothing.
@@ -536,45 +502,5 @@ pub fn format_encrypted_detached(
     ciphertext: Option<&[u8]>,
     form: Form,
 ) -> Result<(Vec<u8>, Vec<u8>), Refusal> {
-    let length = length_of(ciphertext);
-    let room = rooms::format(object.len(), 0);
-    let content_room = rooms::content(object.len(), length);
-    answers(room, content_room, |text, content| {
-        let compact = form == Form::Compact;
-        calls::format_encrypted(object, ciphertext, compact, true, text, content)
-    })
-}
-
-/// Encrypts with octets of the system, into an object and a ciphertext of these rooms.
-fn encrypt_with(
-    keys: &[u8],
-    wanted: &[u8],
-    form: Form,
-    detach: bool,
-    plaintext: &[u8],
-    room: usize,
-    content_room: usize,
-) -> Result<(Vec<u8>, Vec<u8>), Refusal> {
-    answers(room, content_room, |object, ciphertext| {
-        let mut random = [0; rooms::MOST_RANDOM_TO_ENCRYPT];
-        let octets = random_octets(&mut random[..rooms::random_to_encrypt(keys.len())]);
-        let compact = form == Form::Compact;
-        calls::encrypt(
-            keys, wanted, compact, detach, octets, plaintext, object, ciphertext,
-        )
-    })
-}
-
-/// Random octets of the system in this place, or none if it gives none. The library then refuses with `Random`, or for an earlier cause.
-fn random_octets(place: &mut [u8]) -> &[u8] {
-    if random::draw(place) {
-        place
-    } else {
-        &[]
-    }
-}
-
-/// The length of a content that is handed in, or 0.
-fn length_of(content: Option<&[u8]>) -> usize {
-    content.map_or(0, <[u8]>::len)
+    calls::format_encrypted(object, ciphertext, form.flag() | calls::DETACH)
 }

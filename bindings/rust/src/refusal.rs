@@ -94,27 +94,8 @@ impl Refusal {
 
     /// The name of the refusal, such as `NotOpened`.
     #[must_use]
-    pub const fn name(self) -> &'static str {
-        match self {
-            Refusal::Usage => "Usage",
-            Refusal::Read => "Read",
-            Refusal::Write => "Write",
-            Refusal::Memory => "Memory",
-            Refusal::Random => "Random",
-            Refusal::Base64 => "Base64",
-            Refusal::Json => "Json",
-            Refusal::Number => "Number",
-            Refusal::Key => "Key",
-            Refusal::Form => "Form",
-            Refusal::Header => "Header",
-            Refusal::Unsupported => "Unsupported",
-            Refusal::NoAlgorithm => "NoAlgorithm",
-            Refusal::KeyDoesNotFit => "KeyDoesNotFit",
-            Refusal::Limit => "Limit",
-            Refusal::NotCompact => "NotCompact",
-            Refusal::NotOpened => "NotOpened",
-            Refusal::Unknown(_) => "Unknown",
-        }
+    pub fn name(self) -> &'static str {
+        crate::calls::name(self.number())
     }
 
     /// The result that a status of the library means.

@@ -19,15 +19,6 @@ fn no_two_keys_are_equal() {
 }
 
 #[test]
-fn a_long_key_ends_in_random_octets() {
-    // The last octets come from the second draw. Octets that nobody drew would be zero.
-    let key = generate(br#"{"bytes":4096}"#).unwrap();
-    let text = String::from_utf8(key).unwrap();
-    assert_eq!(text.len(), r#"{"k":"","kty":"oct"}"#.len() + 5462);
-    assert!(!text.contains("AAAAAAAAAAAAAAAA"));
-}
-
-#[test]
 fn no_two_objects_are_equal() {
     let objects: HashSet<_> = (0..100)
         .map(|_| encrypt(RFC7516_KEY, b"{}", Form::Compact, b"secret").unwrap())

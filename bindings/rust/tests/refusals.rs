@@ -1,5 +1,5 @@
-//! Each refusal that safe calls can provoke. tests/places.rs has Usage, Write and Random. Read never comes, and Memory needs a failed
-//! allocation.
+//! Each refusal that safe calls can provoke. Usage, Read and Write never come, Random needs a system without random octets, and Memory needs a
+//! failed allocation.
 
 mod common;
 

@@ -1,11 +1,7 @@
 //! Values of RFC 7515, RFC 7516 and RFC 7638.
 
-#[allow(dead_code)]
-#[path = "../src/calls.rs"]
-mod calls;
 mod common;
 
-use calls::Place;
 use common::*;
 use lakhdzeva::{
     decrypt, format_encrypted, format_signed, sign, thumbprints, verify, Form, Hash, Signers,
@@ -64,30 +60,6 @@ fn rfc7516_appendix_a3_keeps_its_text_in_both_forms() {
     );
     let compact = format_encrypted(&json, None, Form::Compact).unwrap();
     assert_eq!(compact, RFC7516_A3);
-}
-
-#[test]
-fn rfc7516_appendix_a3_is_written_from_its_random_octets() {
-    let mut object = [0; 1024];
-    let (mut length, mut beside) = (0, 0);
-    let status = calls::encrypt(
-        RFC7516_KEY,
-        RFC7516_TEMPLATE,
-        true,
-        false,
-        &RFC7516_RANDOM,
-        RFC7516_PLAINTEXT,
-        Place {
-            octets: &mut object,
-            length: &mut length,
-        },
-        Place {
-            octets: &mut [],
-            length: &mut beside,
-        },
-    );
-    assert_eq!((status, beside), (0, 0));
-    assert_eq!(&object[..length], RFC7516_A3);
 }
 
 #[test]

@@ -30,7 +30,7 @@ inverse_s_box-lt y = inverse-lt (inverse_s_box_sum y) (inverse_s_box_sum-lt y)
 
 -- ---- the two boxes undo each other
 
-sum_undone : (b : ℕ) → b < 256 → inverse_s_box_sum (s_box_sum b) ≡ b
+pub sum_undone : (b : ℕ) → b < 256 → inverse_s_box_sum (s_box_sum b) ≡ b
 unfolding all_below s_box_sum s_box_bit inverse_s_box_sum inverse_s_box_bit polynomial_sum
 sum_undone b h = equal_below (λ b. inverse_s_box_sum (s_box_sum b)) (λ b. b) 256 b refl h
 

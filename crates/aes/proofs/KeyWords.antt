@@ -5,18 +5,23 @@ use Rattle.std.proofs.lemmas.List.{get_or_append_left}
 use Rattle.std.proofs.Math.Seq.{get_or-append_right}
 use Rattle.aes.specs.SBox.{s_box}
 use Rattle.aes.specs.State.{word}
-use Rattle.aes.specs.KeyExpansion.{power_of_x, rcon, next_word, key_words, key_expansion}
+use Rattle.aes.specs.KeyExpansion.{power_of_x, rcon, transformed, next_word, key_words, key_expansion}
 use Rattle.aes.proofs.Xor.{xor_lt}
 use Rattle.aes.proofs.Products.{octet_product-lt}
 use Rattle.aes.proofs.Boxes.{s_box-lt}
+
+-- What is made of a word depends only on its four octets.
+pub transformed-same : (nk i : ℕ) (a b : ℕ → ℕ) (r : ℕ) → r < 4 → ((s : ℕ) → s < 4 → a s ≡ b s) → transformed nk i a r ≡ transformed nk i b r
+transformed-same nk i a b r h same =
+    ap₂ (λ s t. cond (i % nk == 0) (bit_xor (s_box s) (rcon (i / nk) r)) (cond (nat_lt 6 nk && (i % nk == 4)) (s_box t) t))
+    (same ((r + 1) % 4) (omega arith)) (same r h)
 
 -- Word i depends only on the octets before it.
 pub next_word-same : (nk : ℕ) (v w : List ℕ) (i r : ℕ) → 0 < nk → nk ≤ i → r < 4 → ((p : ℕ) → p < 4 * i → slice_index v p ≡ slice_index w p)
     → next_word nk v i r ≡ next_word nk w i r
 next_word-same nk v w i r pos h l same =
     ap₂ bit_xor (same (4 * (i - nk) + r) (omega arith))
-    (ap₂ (λ s t. cond (i % nk == 0) (bit_xor (s_box s) (rcon (i / nk) r)) (cond (nat_lt 6 nk && (i % nk == 4)) (s_box t) t))
-    (same (4 * (i - 1) + (r + 1) % 4) (omega arith)) (same (4 * (i - 1) + r) (omega arith)))
+    (transformed-same nk i (word v (i - 1)) (word w (i - 1)) r l (λ s m. same (4 * (i - 1) + s) (omega arith)))
 
 module _ (nk : ℕ) (k : List ℕ) (pos : 0 < nk) (size : length k ≡ 4 * nk) where
   length-key_words : (n : ℕ) → length (key_words nk k n) ≡ 4 * (nk + n)
@@ -71,15 +76,13 @@ module _ (nk : ℕ) (k : List ℕ) (pos : 0 < nk) (size : length k ≡ 4 * nk) w
   unfolding key_expansion
   key_octet p h = sym (key_words-front (3 * nk + 28) p (omega arith))
 
-  -- The octet at place p is computed from any list with the same octets before it.
-  pub next_key_octet : (v : List ℕ) (p : ℕ) → 4 * nk ≤ p → p < 16 * (nk + 7) → ((q : ℕ) → q < p → slice_index v q ≡ slice_index (key_expansion nk k) q)
-      → next_word nk v (p / 4) (p % 4) ≡ slice_index (key_expansion nk k) p
+  -- The word at place i is computed from any list with the same octets before it.
+  pub next_key_word : (v : List ℕ) (i r : ℕ) → nk ≤ i → i < 4 * (nk + 7) → r < 4 → ((q : ℕ) → q < 4 * i → slice_index v q ≡ slice_index (key_expansion nk k) q)
+      → next_word nk v i r ≡ word (key_expansion nk k) i r
   unfolding key_expansion
-  next_key_octet v p h l same =
-      let w = key_words nk k (3 * nk + 28) in
-      next_word-same nk v w (p / 4) (p % 4) pos (omega arith) (omega arith) (λ q s. same q (omega arith))
-      ∙ sym (key_words-next (3 * nk + 28) (p / 4) (p % 4) (omega arith) (omega arith) (omega arith))
-      ∙ ap (slice_index w) (let e : 4 * (p / 4) + p % 4 ≡ p = omega arith in e)
+  next_key_word v i r h l m same =
+      next_word-same nk v (key_words nk k (3 * nk + 28)) i r pos h m same
+      ∙ sym (key_words-next (3 * nk + 28) i r h (omega arith) m)
 
 -- ---- key words are octets
 

@@ -1,5 +1,5 @@
 -- States: their octets by row and column.
-use Rattle.std.proofs.Common.{◌≡◌, ℕ, ◌+◌, ◌*◌, ◌/◌, ◌%◌, ◌<◌, List, length, get_or, sym, ap₂, subst, ◌∙◌, arith, ext_get_or}
+use Rattle.std.proofs.Common.{◌≡◌, ℕ, zero, suc, ◌+◌, ◌*◌, ◌/◌, ◌%◌, ◌<◌, List, length, get_or, sym, ap₂, subst, ◌∙◌, arith, ext_get_or}
 use Rattle.std.proofs.lemmas.List.FromFn.{length-map-range_with_len, get_or-map-range_with_len}
 use Rattle.aes.specs.State.{at, square}
 
@@ -20,3 +20,11 @@ same_square f b n h = ext_get_or 0 (square f) b (length-square f ∙ sym n) (λ 
     let c : i / 4 < 4 = omega (arith, subst (λ k. i < k) (length-square f) l) in
     let e : i % 4 + 4 * (i / 4) ≡ i = omega arith in
     subst (λ k. get_or (square f) k 0 ≡ get_or b k 0) e (at-square f (i % 4) (i / 4) r c ∙ h (i % 4) (i / 4) r c))
+
+-- A fact that holds in each of the four rows holds in every row.
+pub by_row : (P : ℕ → Type 0) → P 0 → P 1 → P 2 → P 3 → (r : ℕ) → r < 4 → P r
+by_row P p q s t zero h = p
+by_row P p q s t (suc zero) h = q
+by_row P p q s t (suc (suc zero)) h = s
+by_row P p q s t (suc (suc (suc zero))) h = t
+by_row P p q s t (suc (suc (suc (suc r)))) h = absurd (omega arith)

@@ -1,5 +1,9 @@
 -- What contracts say of values and calls of the code.
 -- a key that was expanded
 pub mod Aes
--- words of octets
-pub mod Words
+-- lists of whole blocks
+pub mod Blocks
+-- look-ups of half octets
+pub mod LookUps
+-- blocks between the rounds
+pub mod Kept

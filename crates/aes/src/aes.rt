@@ -6,6 +6,7 @@ ghost use Rattle.aes.specs.InverseCipher.{inverse_cipher};
 
 use crate::block::Block;
 use crate::cipher::{cipher, inverse_cipher};
+use crate::four_blocks::{cipher_4, inverse_cipher_4};
 use crate::key_expansion::key_expansion;
 
 /// AES under a key of 128 bits, with 10 rounds (FIPS 197 section 5).
@@ -42,6 +43,14 @@ impl Block for Aes128 {
 
     fn decrypt(&self, b: &[u8; 16]) -> [u8; 16] {
         inverse_cipher(&self.round_keys, 10, b)
+    }
+
+    fn encrypt_4(&self, blocks: &[[u8; 16]; 4]) -> [[u8; 16]; 4] {
+        cipher_4(&self.round_keys, 10, blocks)
+    }
+
+    fn decrypt_4(&self, blocks: &[[u8; 16]; 4]) -> [[u8; 16]; 4] {
+        inverse_cipher_4(&self.round_keys, 10, blocks)
     }
 
     ghost is_cipher = { λ k. k.is_cipher };
@@ -83,6 +92,14 @@ impl Block for Aes192 {
         inverse_cipher(&self.round_keys, 12, b)
     }
 
+    fn encrypt_4(&self, blocks: &[[u8; 16]; 4]) -> [[u8; 16]; 4] {
+        cipher_4(&self.round_keys, 12, blocks)
+    }
+
+    fn decrypt_4(&self, blocks: &[[u8; 16]; 4]) -> [[u8; 16]; 4] {
+        inverse_cipher_4(&self.round_keys, 12, blocks)
+    }
+
     ghost is_cipher = { λ k. k.is_cipher };
 }
 
@@ -120,6 +137,14 @@ impl Block for Aes256 {
 
     fn decrypt(&self, b: &[u8; 16]) -> [u8; 16] {
         inverse_cipher(&self.round_keys, 14, b)
+    }
+
+    fn encrypt_4(&self, blocks: &[[u8; 16]; 4]) -> [[u8; 16]; 4] {
+        cipher_4(&self.round_keys, 14, blocks)
+    }
+
+    fn decrypt_4(&self, blocks: &[[u8; 16]; 4]) -> [[u8; 16]; 4] {
+        inverse_cipher_4(&self.round_keys, 14, blocks)
     }
 
     ghost is_cipher = { λ k. k.is_cipher };

@@ -1,79 +1,65 @@
-//! The inverse steps of a round (FIPS 197 section 5.3). The sum with a round's key is its own inverse.
-ghost use Rattle.std.specs.Prelude.{◌≡◌, ℕ, ◌+◌, ◌-◌, ◌*◌, ◌%◌, ◌≤◌, ◌<◌, bit_xor, [], ◌∷◌, length, slice_index};
-ghost use Rattle.aes.specs.InverseCipher.{inverse_s_box, inverse_sub_bytes, inverse_shift_rows, inverse_mix_columns};
-ghost use Rattle.aes.specs.Octet.{octet_product};
-ghost use Rattle.aes.specs.Polynomial.{polynomial_sum};
-ghost use Rattle.aes.specs.State.{word, add_round_key};
-ghost use Rattle.aes.specs.Code.Words.{octet, block_of};
+//! The inverse steps of a round (FIPS 197 section 5.3). Between the rounds the S-box's sum of bits is already undone, and the octets are kept
+//! in the basis of `lookups`.
+ghost use Rattle.std.specs.Prelude.{◌≡◌, ◌+◌, ◌%◌};
+ghost use Rattle.aes.specs.InverseCipher.{inverse_sub_bytes, inverse_shift_rows, inverse_mix_columns};
+ghost use Rattle.aes.specs.State.{at, square};
+ghost use Rattle.aes.specs.Code.Kept.{summed};
 
-use crate::state::turned_sum;
-use crate::tables::{inverse_mix, unsubstitute};
+use crate::lookups::{from_halves, from_inverse};
+use crate::state::{sum, up_1};
+use crate::tables::{RECIPROCAL, TIMES_9, TIMES_11, TIMES_13, TIMES_14, UNDONE};
+use std::simd::u8x16;
 
-/// The inverse of the S-box on the column of octet 0 of `a`, 1 of `b`, 2 of `c` and 3 of `d`.
-fn unsubstitute_column(a: u32, b: u32, c: u32, d: u32) -> u32
-    ensures { (r : ℕ) → r < 4 → octet result r ≡ inverse_s_box (octet (slice_index (a ∷ b ∷ c ∷ d ∷ []) r) r) }
+/// Each column turned up by 2.
+#[inline(always)]
+fn up_2(x: u8x16) -> u8x16
+    ensures { result ≡ square (λ r c. at x ((r + 2) % 4) c) }
 {
-    let [a0, _, _, _] = a.to_le_bytes();
-    let [_, b1, _, _] = b.to_le_bytes();
-    let [_, _, c2, _] = c.to_le_bytes();
-    let [_, _, _, d3] = d.to_le_bytes();
-    u32::from_le_bytes([
-        unsubstitute(a0),
-        unsubstitute(b1),
-        unsubstitute(c2),
-        unsubstitute(d3),
-    ])
+    x.swizzle([2, 3, 0, 1, 6, 7, 4, 5, 10, 11, 8, 9, 14, 15, 12, 13])
 }
 
-/// Each row turned to the right by its number, and the inverse of the S-box on each octet (sections 5.3.1 and 5.3.2).
-pub(crate) fn inverse_shift_sub(state: [u32; 4]) -> [u32; 4]
-    ensures { block_of result ≡ inverse_sub_bytes (inverse_shift_rows (block_of state)) }
+/// Each column turned up by 3.
+#[inline(always)]
+fn up_3(x: u8x16) -> u8x16
+    ensures { result ≡ square (λ r c. at x ((r + 3) % 4) c) }
 {
-    let [a, b, c, d] = state;
-    [
-        unsubstitute_column(a, d, c, b),
-        unsubstitute_column(b, a, d, c),
-        unsubstitute_column(c, b, a, d),
-        unsubstitute_column(d, c, b, a),
-    ]
+    x.swizzle([3, 0, 1, 2, 7, 4, 5, 6, 11, 8, 9, 10, 15, 12, 13, 14])
 }
 
-/// On the same column: the inverse of the S-box, the sum with word i of the round keys, and the inverse matrix.
-fn inverse_round_column(round_keys: &[u8], i: usize, a: u32, b: u32, c: u32, d: u32) -> u32
-    requires { 4 * i + 4 ≤ length round_keys.now }
-    ensures { (r : ℕ) → r < 4
-        → octet result r
-        ≡ polynomial_sum
-        (λ k. octet_product
-        (slice_index (14 ∷ 9 ∷ 13 ∷ 11 ∷ []) ((r + 4 - k) % 4))
-        (bit_xor (inverse_s_box (octet (slice_index (a ∷ b ∷ c ∷ d ∷ []) k) k)) (word round_keys.now i k))) 4 }
+/// Row r turned to the right by r (section 5.3.1).
+#[inline(always)]
+fn shifted_back(x: u8x16) -> u8x16
+    ensures { result ≡ inverse_shift_rows x }
 {
-    let [a0, _, _, _] = a.to_le_bytes();
-    let [_, b1, _, _] = b.to_le_bytes();
-    let [_, _, c2, _] = c.to_le_bytes();
-    let [_, _, _, d3] = d.to_le_bytes();
-    let n = 4 * i;
-    turned_sum(
-        inverse_mix(unsubstitute(a0) ^ round_keys[n]),
-        inverse_mix(unsubstitute(b1) ^ round_keys[n + 1]),
-        inverse_mix(unsubstitute(c2) ^ round_keys[n + 2]),
-        inverse_mix(unsubstitute(d3) ^ round_keys[n + 3]),
+    x.swizzle([0, 13, 10, 7, 4, 1, 14, 11, 8, 5, 2, 15, 12, 9, 6, 3])
+}
+
+/// The block with the S-box's sum of bits undone, in the basis that is kept.
+#[inline(always)]
+pub(crate) fn keep_undone(x: u8x16) -> u8x16
+    ensures { summed result ≡ x }
+{
+    from_halves(UNDONE, x)
+}
+
+/// Row r turned to the right by r, and the inverse of the S-box on each octet (sections 5.3.1 and 5.3.2), in the standard basis.
+#[inline(always)]
+pub(crate) fn inverse_shift_sub(x: u8x16) -> u8x16
+    ensures { result ≡ inverse_sub_bytes (inverse_shift_rows (summed x)) }
+{
+    from_inverse(RECIPROCAL, shifted_back(x))
+}
+
+/// Each column multiplied by the inverse matrix (section 5.3.3), from the standard basis.
+#[inline(always)]
+pub(crate) fn inverse_mix(x: u8x16) -> u8x16
+    ensures { summed result ≡ inverse_mix_columns x }
+{
+    sum(
+        sum(from_halves(TIMES_14, x), up_1(from_halves(TIMES_11, x))),
+        sum(
+            up_2(from_halves(TIMES_13, x)),
+            up_3(from_halves(TIMES_9, x)),
+        ),
     )
-}
-
-/// `inverse_shift_sub`, then the sum with the key words of a round (section 5.1.4), and then each column multiplied by the inverse matrix
-/// (section 5.3.3).
-pub(crate) fn inverse_round(round_keys: &[u8], round: usize, state: [u32; 4]) -> [u32; 4]
-    requires { 16 * round + 16 ≤ length round_keys.now }
-    ensures { block_of result
-        ≡ inverse_mix_columns (add_round_key round_keys.now round (inverse_sub_bytes (inverse_shift_rows (block_of state)))) }
-{
-    let [a, b, c, d] = state;
-    let first = 4 * round;
-    [
-        inverse_round_column(round_keys, first, a, d, c, b),
-        inverse_round_column(round_keys, first + 1, b, a, d, c),
-        inverse_round_column(round_keys, first + 2, c, b, a, d),
-        inverse_round_column(round_keys, first + 3, d, c, b, a),
-    ]
 }

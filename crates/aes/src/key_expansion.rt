@@ -1,11 +1,12 @@
 //! The key expansion (FIPS 197 section 5.2), for a key of `nk` words of four octets. A round key is four words. The round keys are one
-//! list, which is made octet by octet.
-ghost use Rattle.std.specs.Prelude.{◌≡◌, ◌+◌, ◌-◌, ◌*◌, ◌/◌, ◌≤◌, ◌<◌, length};
+//! list, which is made word by word.
+ghost use Rattle.std.specs.Prelude.{◌≡◌, ℕ, ◌+◌, ◌-◌, ◌*◌, ◌/◌, ◌%◌, ◌≤◌, ◌<◌, bit_xor, length, slice_index};
 ghost use Rattle.aes.specs.KeyExpansion.{power_of_x, transformed, next_word, key_expansion};
 ghost use Rattle.aes.specs.Octet.{octet_product};
 ghost use Rattle.aes.specs.State.{word};
 
-use crate::tables::substitute;
+use crate::state::sub_word;
+use std::simd::u8x4;
 
 /// The product by x in the field of octets (section 4.2).
 fn multiply_by_x(a: u8) -> u8
@@ -31,37 +32,55 @@ fn round_constant(j: usize) -> u8
     power
 }
 
-/// Octet r of the word before place i, transformed for place i.
-fn transform(nk: usize, round_keys: &[u8], i: usize, r: usize) -> u8
+/// The word at place i.
+fn word(round_keys: &[u8], i: usize) -> u8x4
+    requires { 4 * i + 4 ≤ length round_keys.now }
+    ensures { (r : ℕ) → r < 4 → slice_index result r ≡ word round_keys.now i r }
+{
+    u8x4::from_slice(&round_keys[4 * i..])
+}
+
+/// The sum of two words.
+fn sum(a: u8x4, b: u8x4) -> u8x4
+    ensures { (r : ℕ) → r < 4 → slice_index result r ≡ bit_xor (slice_index a r) (slice_index b r) }
+{
+    a ^ b
+}
+
+/// The word turned by one octet.
+fn rotated(word: u8x4) -> u8x4
+    ensures { (r : ℕ) → r < 4 → slice_index result r ≡ slice_index word ((r + 1) % 4) }
+{
+    word.swizzle([1, 2, 3, 0])
+}
+
+/// The word before place i, transformed for place i.
+fn transform(nk: usize, i: usize, word: u8x4) -> u8x4
     requires size { 0 < nk }
     requires place { nk ≤ i }
-    requires before { 4 * i ≤ length round_keys.now }
-    requires octet { r < 4 }
-    ensures { result ≡ transformed nk i (word round_keys.now (i - 1)) r }
+    ensures { (r : ℕ) → r < 4 → slice_index result r ≡ transformed nk i (slice_index word) r }
 {
     if i % nk == 0 {
-        let rotated = substitute(round_keys[4 * (i - 1) + (r + 1) % 4]);
-        if r == 0 {
-            rotated ^ round_constant(i / nk)
-        } else {
-            rotated
-        }
+        sum(
+            sub_word(rotated(word)),
+            u8x4::from_array([round_constant(i / nk), 0, 0, 0]),
+        )
     } else if nk > 6 && i % nk == 4 {
-        substitute(round_keys[4 * (i - 1) + r])
+        sub_word(word)
     } else {
-        round_keys[4 * (i - 1) + r]
+        word
     }
 }
 
-/// Octet r of the word at place i, from the words before it.
-fn next_octet(nk: usize, round_keys: &[u8], i: usize, r: usize) -> u8
+/// The word at place i, from the words before it.
+fn next_word(nk: usize, round_keys: &[u8], i: usize) -> u8x4
     requires size { 0 < nk }
     requires place { nk ≤ i }
     requires before { 4 * i ≤ length round_keys.now }
-    requires octet { r < 4 }
-    ensures { result ≡ next_word nk round_keys.now i r }
+    ensures { (r : ℕ) → r < 4 → slice_index result r ≡ next_word nk round_keys.now i r }
 {
-    round_keys[4 * (i - nk) + r] ^ transform(nk, round_keys, i, r)
+    let last = transform(nk, i, word(round_keys, i - 1));
+    sum(word(round_keys, i - nk), last)
 }
 
 /// Writes all round keys: the words of the key, and those that follow.
@@ -71,11 +90,9 @@ pub(crate) fn key_expansion(nk: usize, key: &[u8], round_keys: &mut [u8])
     requires room { length round_keys.old ≡ 16 * (nk + 7) }
     ensures { round_keys.new ≡ key_expansion nk key.now }
 {
-    for n in 0..round_keys.len() {
-        round_keys[n] = if n < key.len() {
-            key[n]
-        } else {
-            next_octet(nk, round_keys, n / 4, n % 4)
-        };
+    round_keys[..4 * nk].copy_from_slice(key);
+    for i in nk..4 * (nk + 7) {
+        let word = next_word(nk, round_keys, i);
+        round_keys[4 * i..4 * i + 4].copy_from_slice(&word.to_array());
     }
 }

@@ -18,10 +18,13 @@ pub use block::Block;
 mod aes;
 mod block;
 mod cipher;
+mod four_blocks;
 mod inverse_state;
 mod key_expansion;
 pub mod laws;
+mod lookups;
 mod state;
 mod tables;
 #[cfg(test)]
 mod tests;
+mod whole_blocks;

@@ -1,125 +1,125 @@
-//! The state and the steps of a round (FIPS 197 sections 3.4, 3.5 and 5.1). A state is held as four words, one for each column. The octet
-//! in the first row is the lowest.
-ghost use Rattle.std.specs.Prelude.{◌≡◌, ℕ, ◌+◌, ◌-◌, ◌*◌, ◌%◌, ◌≤◌, ◌<◌, [], ◌∷◌, length, slice_index};
-ghost use Rattle.aes.specs.Octet.{octet_product};
-ghost use Rattle.aes.specs.Polynomial.{polynomial_sum};
+//! The steps of a round (FIPS 197 section 5.1) on a block, held as a vector of its sixteen octets. Between the rounds the octets are kept in
+//! the basis of `lookups`.
+ghost use Rattle.std.specs.Prelude.{◌≡◌, ℕ, ◌+◌, ◌*◌, ◌%◌, ◌<◌, ◌≤◌, bit_xor, length, slice_index};
 ghost use Rattle.aes.specs.SBox.{s_box};
-ghost use Rattle.aes.specs.State.{word, sub_bytes, shift_rows, mix_columns, add_round_key};
-ghost use Rattle.aes.specs.Code.Words.{octet, block_of};
+ghost use Rattle.aes.specs.State.{at, square, word, sub_bytes, shift_rows, mix_columns, add_round_key};
+ghost use Rattle.aes.specs.Code.Kept.{plain};
 
-use crate::tables::{substitute, substitute_and_mix};
+use crate::lookups::{from_halves, from_inverse};
+use crate::tables::{CONSTANT, KEPT, LAST, SUB, TWICE};
+use std::simd::{u8x4, u8x16};
 
-/// Word i of a list of words.
-fn word(words: &[u8], i: usize) -> u32
-    requires { 4 * i + 4 ≤ length words.now }
-    ensures { (r : ℕ) → r < 4 → octet result r ≡ word words.now i r }
+/// Row r turned to the left by r (section 5.1.2).
+#[inline(always)]
+fn shifted(x: u8x16) -> u8x16
+    ensures { result ≡ shift_rows x }
 {
-    let n = 4 * i;
-    u32::from_le_bytes([words[n], words[n + 1], words[n + 2], words[n + 3]])
+    x.swizzle([0, 5, 10, 15, 4, 9, 14, 3, 8, 13, 2, 7, 12, 1, 6, 11])
 }
 
-/// The columns of a block.
-pub(crate) fn columns_of(b: &[u8; 16]) -> [u32; 4]
-    ensures { block_of result ≡ b.now }
+/// `shifted`, and then each column turned up by 1.
+#[inline(always)]
+fn shifted_up_1(x: u8x16) -> u8x16
+    ensures { result ≡ square (λ r c. at x ((r + 1) % 4) ((c + (r + 1) % 4) % 4)) }
 {
-    [word(b, 0), word(b, 1), word(b, 2), word(b, 3)]
+    x.swizzle([5, 10, 15, 0, 9, 14, 3, 4, 13, 2, 7, 8, 1, 6, 11, 12])
 }
 
-/// The block that has these columns.
-pub(crate) fn block_of(state: [u32; 4]) -> [u8; 16]
-    ensures { result ≡ block_of state }
+/// `shifted`, and then each column turned up by 3.
+#[inline(always)]
+fn shifted_up_3(x: u8x16) -> u8x16
+    ensures { result ≡ square (λ r c. at x ((r + 3) % 4) ((c + (r + 3) % 4) % 4)) }
 {
-    let [a, b, c, d] = state;
-    let [a0, a1, a2, a3] = a.to_le_bytes();
-    let [b0, b1, b2, b3] = b.to_le_bytes();
-    let [c0, c1, c2, c3] = c.to_le_bytes();
-    let [d0, d1, d2, d3] = d.to_le_bytes();
-    [
-        a0, a1, a2, a3, b0, b1, b2, b3, c0, c1, c2, c3, d0, d1, d2, d3,
-    ]
+    x.swizzle([15, 0, 5, 10, 3, 4, 9, 14, 7, 8, 13, 2, 11, 12, 1, 6])
+}
+
+/// Each column turned up by 1.
+#[inline(always)]
+pub(crate) fn up_1(x: u8x16) -> u8x16
+    ensures { result ≡ square (λ r c. at x ((r + 1) % 4) c) }
+{
+    x.swizzle([1, 2, 3, 0, 5, 6, 7, 4, 9, 10, 11, 8, 13, 14, 15, 12])
+}
+
+/// The sum of two blocks.
+#[inline(always)]
+pub(crate) fn sum(a: u8x16, b: u8x16) -> u8x16
+    ensures { result ≡ square (λ r c. bit_xor (at a r c) (at b r c)) }
+{
+    a ^ b
+}
+
+/// The key words of a round.
+#[inline(always)]
+fn round_key(round_keys: &[u8], round: usize) -> u8x16
+    requires { 16 * round + 16 ≤ length round_keys.now }
+    ensures { result ≡ square (λ r c. word round_keys.now (4 * round + c) r) }
+{
+    u8x16::from_slice(&round_keys[16 * round..])
+}
+
+/// The sum with the key words of a round (section 5.1.4), in the standard basis.
+#[inline(always)]
+pub(crate) fn add_round_key(round_keys: &[u8], round: usize, x: u8x16) -> u8x16
+    requires { 16 * round + 16 ≤ length round_keys.now }
+    ensures { result ≡ add_round_key round_keys.now round x }
+{
+    sum(x, round_key(round_keys, round))
+}
+
+/// The block in the basis that is kept.
+#[inline(always)]
+pub(crate) fn keep(x: u8x16) -> u8x16
+    ensures { plain result ≡ x }
+{
+    from_halves(KEPT, x)
 }
 
 /// The sum with the key words of a round (section 5.1.4).
-pub(crate) fn add_round_key(round_keys: &[u8], round: usize, state: [u32; 4]) -> [u32; 4]
+#[inline(always)]
+pub(crate) fn add_kept_round_key(round_keys: &[u8], round: usize, x: u8x16) -> u8x16
     requires { 16 * round + 16 ≤ length round_keys.now }
-    ensures { block_of result ≡ add_round_key round_keys.now round (block_of state) }
+    ensures { plain result ≡ add_round_key round_keys.now round (plain x) }
 {
-    let [a, b, c, d] = state;
-    let first = 4 * round;
-    [
-        a ^ word(round_keys, first),
-        b ^ word(round_keys, first + 1),
-        c ^ word(round_keys, first + 2),
-        d ^ word(round_keys, first + 3),
-    ]
+    sum(x, keep(round_key(round_keys, round)))
 }
 
-/// The sum of four words, each turned to the left by one octet more than the word before it.
-pub(crate) fn turned_sum(a: u32, b: u32, c: u32, d: u32) -> u32
-    ensures { (r : ℕ) → r < 4
-        → octet result r ≡ polynomial_sum (λ k. octet (slice_index (a ∷ b ∷ c ∷ d ∷ []) k) ((r + 4 - k) % 4)) 4 }
+/// The S-box on each octet, row r turned to the left by r, and each column multiplied by the matrix of the cipher (sections 5.1.1 to
+/// 5.1.3). The sum of three constants of the S-box, and of two that are doubled, is one.
+#[inline(always)]
+pub(crate) fn sub_shift_mix(x: u8x16) -> u8x16
+    ensures { plain result ≡ mix_columns (shift_rows (sub_bytes (plain x))) }
 {
-    a ^ b.rotate_left(8) ^ c.rotate_left(16) ^ d.rotate_left(24)
-}
-
-/// The S-box on the column of octet 0 of `a`, 1 of `b`, 2 of `c` and 3 of `d`.
-fn substitute_column(a: u32, b: u32, c: u32, d: u32) -> u32
-    ensures { (r : ℕ) → r < 4 → octet result r ≡ s_box (octet (slice_index (a ∷ b ∷ c ∷ d ∷ []) r) r) }
-{
-    let [a0, _, _, _] = a.to_le_bytes();
-    let [_, b1, _, _] = b.to_le_bytes();
-    let [_, _, c2, _] = c.to_le_bytes();
-    let [_, _, _, d3] = d.to_le_bytes();
-    u32::from_le_bytes([
-        substitute(a0),
-        substitute(b1),
-        substitute(c2),
-        substitute(d3),
-    ])
-}
-
-/// The S-box on each octet, and each row turned to the left by its number (sections 5.1.1 and 5.1.2).
-pub(crate) fn sub_shift(state: [u32; 4]) -> [u32; 4]
-    ensures { block_of result ≡ shift_rows (sub_bytes (block_of state)) }
-{
-    let [a, b, c, d] = state;
-    [
-        substitute_column(a, b, c, d),
-        substitute_column(b, c, d, a),
-        substitute_column(c, d, a, b),
-        substitute_column(d, a, b, c),
-    ]
-}
-
-/// The S-box and the matrix of the cipher on the same column.
-fn substitute_and_mix_column(a: u32, b: u32, c: u32, d: u32) -> u32
-    ensures { (r : ℕ) → r < 4
-        → octet result r
-        ≡ polynomial_sum
-        (λ k. octet_product
-        (slice_index (2 ∷ 1 ∷ 1 ∷ 3 ∷ []) ((r + 4 - k) % 4)) (s_box (octet (slice_index (a ∷ b ∷ c ∷ d ∷ []) k) k))) 4 }
-{
-    let [a0, _, _, _] = a.to_le_bytes();
-    let [_, b1, _, _] = b.to_le_bytes();
-    let [_, _, c2, _] = c.to_le_bytes();
-    let [_, _, _, d3] = d.to_le_bytes();
-    turned_sum(
-        substitute_and_mix(a0),
-        substitute_and_mix(b1),
-        substitute_and_mix(c2),
-        substitute_and_mix(d3),
+    let once = from_inverse(SUB, x);
+    let pair = sum(shifted(from_inverse(TWICE, x)), shifted_up_1(once));
+    sum(
+        up_1(pair),
+        sum(pair, shifted_up_3(once) ^ u8x16::splat(CONSTANT)),
     )
 }
 
-/// `sub_shift`, and then each column multiplied by the matrix of the cipher (section 5.1.3).
-pub(crate) fn sub_shift_mix(state: [u32; 4]) -> [u32; 4]
-    ensures { block_of result ≡ mix_columns (shift_rows (sub_bytes (block_of state))) }
+/// The S-box on each octet (section 5.1.1), in the standard basis again.
+#[inline(always)]
+fn sub(x: u8x16) -> u8x16
+    ensures { result ≡ sub_bytes (plain x) }
 {
-    let [a, b, c, d] = state;
-    [
-        substitute_and_mix_column(a, b, c, d),
-        substitute_and_mix_column(b, c, d, a),
-        substitute_and_mix_column(c, d, a, b),
-        substitute_and_mix_column(d, a, b, c),
-    ]
+    from_inverse(LAST, x) ^ u8x16::splat(0x63)
+}
+
+/// `sub`, and row r turned to the left by r (sections 5.1.1 and 5.1.2).
+#[inline(always)]
+pub(crate) fn sub_shift(x: u8x16) -> u8x16
+    ensures { result ≡ shift_rows (sub_bytes (plain x)) }
+{
+    shifted(sub(x))
+}
+
+/// The S-box on the octets of a word (section 5.2).
+pub(crate) fn sub_word(word: u8x4) -> u8x4
+    ensures { (r : ℕ) → r < 4 → slice_index result r ≡ s_box (slice_index word r) }
+{
+    let [a, b, c, d] = word.to_array();
+    let x = u8x16::from_array([a, b, c, d, 0, 0, 0, 0, 0, 0, 0, 0, 0, 0, 0, 0]);
+    let y = sub(keep(x)).to_array();
+    u8x4::from_array([y[0], y[1], y[2], y[3]])
 }

@@ -58,6 +58,34 @@ fn fips197_appendix_c(rt: HostRuntime) {
     expect_both_ways(&rt, &Aes256::new(&first()), text);
 }
 
+// Blocks that are encrypted together are those that are encrypted one at a time, and decrypting gives them back.
+fn expect_together<B: Block>(rt: &impl Abort, cipher: &B) {
+    let mut text = [0; 144];
+    for i in 0..144_u8 {
+        text[i as usize] = i.wrapping_mul(7);
+    }
+    for n in 1..10_usize {
+        let mut together = text;
+        cipher.encrypt_blocks(&mut together[..16 * n]);
+        let mut one_by_one = text;
+        for i in 0..n {
+            let mut block = [0; 16];
+            block.copy_from_slice(&text[16 * i..16 * i + 16]);
+            one_by_one[16 * i..16 * i + 16].copy_from_slice(&cipher.encrypt(&block));
+        }
+        assert!(rt; together == one_by_one, "{n} blocks");
+        cipher.decrypt_blocks(&mut together[..16 * n]);
+        assert!(rt; together == text, "{n} blocks back");
+    }
+}
+
+#[test]
+fn several_blocks_are_encrypted_as_one(rt: HostRuntime) {
+    expect_together(&rt, &Aes128::new(&first()));
+    expect_together(&rt, &Aes192::new(&first()));
+    expect_together(&rt, &Aes256::new(&first()));
+}
+
 // Whether this word is at this place.
 fn has_word(words: &[u8], i: u8, word: &[u8; 4]) -> bool {
     let at = 4 * i as usize;

@@ -1,10 +1,11 @@
 //! AES key wrap (RFC 3394), over any block cipher. The registers R[1] to R[n] are one slice, with eight octets each.
-ghost use Rattle.std.specs.Prelude.{◌≡◌, ℕ, ◌+◌, ◌*◌, ◌/◌, ◌%◌, ◌≤◌, List, ◌++◌, length, take, drop, IfNone, OnSome};
-ghost use Rattle.ciphers.specs.KeyWrap.{xor_count, wrapped, IsUnwrapping};
+ghost use Rattle.std.specs.Prelude.{◌≡◌, ℕ, ◌+◌, ◌*◌, ◌/◌, ◌%◌, ◌≤◌, List, ◌++◌, ◌↔◌, length, take, drop, IfNone, IsTrue, OnSome};
+ghost use Rattle.ciphers.specs.KeyWrap.{initial_value, xor_count, wrapped, IsUnwrapping};
 ghost use Rattle.ciphers.specs.Code.Views.{IsRow};
 ghost use Rattle.octets.specs.Octets.{IsOctets};
 
 use aes::Block;
+use octets::same_octets;
 
 /// The initial value of A, for which `unwrap` looks (section 2.2.3.1).
 const INITIAL_VALUE: [u8; 8] = [0xa6; 8];
@@ -78,6 +79,14 @@ fn unwrap_registers<B: Block>(kek: &B, a: &mut [u8; 8], r: &mut [u8])
     }
 }
 
+/// Whether A is the initial value. The compiler must not see where A comes from: it then compares A in parts, with a branch for each.
+#[inline(never)]
+fn is_initial(a: &[u8; 8]) -> bool
+    ensures { IsTrue result ↔ (a.now ≡ initial_value) }
+{
+    same_octets(a, &INITIAL_VALUE)
+}
+
 /// Wraps `key_data`, of 16 to 64 octets in parts of 8, into `out`, which is 8 octets longer (RFC 3394 section 2.2.1).
 pub fn wrap<B: Block>(kek: &B, key_data: &[u8], out: &mut [u8])
     requires parts { length key_data.now % 8 ≡ 0 }
@@ -108,7 +117,7 @@ pub fn unwrap<B: Block>(kek: &B, wrapped: &[u8], out: &mut [u8]) -> Option<()>
     a.copy_from_slice(&wrapped[..8]);
     r.copy_from_slice(&wrapped[8..]);
     unwrap_registers(kek, &mut a, r);
-    if a != INITIAL_VALUE {
+    if !is_initial(&a) {
         return None;
     }
     out.copy_from_slice(r);

@@ -46,11 +46,14 @@ pub record Holds (place : Place) (octets : List ℕ) : Type 0 where
 
 -- ---- the calls (docs/SPECIFICATION.md "Calls for C" 2 and 5)
 
+-- No call has an input that could fail, so status 2 never comes.
+
 -- A call without a place. Status 3 means that a place is too small, so it never has this status.
 pub record Tells {W : Type 0} (answer : Result W Refusal) (status : ℕ) : Type 0 where
   pub accepted : status ≡ 0 → (done : W) × (answer ≡ Ok done)
   pub refused : status ≢ 0 → IsRefused answer status
   pub no_place : status ≢ 3
+  pub no_read : status ≢ 2
 
 -- With status 0 the place holds exactly the answer. With status 3 the answer has more octets than the place, and the length is theirs. With
 -- every other status the answer is this refusal, or memory ran out. Whenever the status is not 0, the place is as it was.
@@ -59,6 +62,7 @@ pub record Delivers (answer : Result (List ℕ) Refusal) (place : Place) (status
   pub too_small : status ≡ 3 → (octets : List ℕ) × (answer ≡ Ok octets) × (place.count ≡ length octets) × (length place.old < length octets)
   pub refused : status ≢ 0 → status ≢ 3 → IsRefused answer status × (place.count ≡ 0)
   pub untouched : status ≢ 0 → place.new ≡ place.old
+  pub no_read : status ≢ 2
 
 -- The same for a text and for a content beside it. Neither is written if one place is too small.
 pub record DeliversBoth (answer : Result OutputTexts Refusal) (text content : Place) (status : ℕ) : Type 0 where
@@ -67,3 +71,4 @@ pub record DeliversBoth (answer : Result OutputTexts Refusal) (text content : Pl
       × ((length text.old < length texts.text) ⊎ (length content.old < length texts.content))
   pub refused : status ≢ 0 → status ≢ 3 → IsRefused answer status × (text.count ≡ 0) × (content.count ≡ 0)
   pub untouched : status ≢ 0 → (text.new ≡ text.old) × (content.new ≡ content.old)
+  pub no_read : status ≢ 2

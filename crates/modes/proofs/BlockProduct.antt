@@ -1,17 +1,15 @@
 -- The product of two blocks, bit by bit, from the laws of polynomials.
-use Rattle.std.proofs.Common.{◌≡◌, ℕ, suc, ◌+◌, ◌-◌, ◌*◌, ◌/◌, ◌%◌, ◌^◌, ◌<◌, List, [], ◌∷◌, ◌++◌, length, map, get_or, slice_index, bit_and, bit_xor, refl, sym, ap, ap₂, ◌∙◌, arith, zero-mul, one-mul, mul-one, add-one, length-append, get_or-append-add}
+use Rattle.std.proofs.Common.{◌≡◌, ℕ, suc, ◌+◌, ◌-◌, ◌*◌, ◌/◌, ◌%◌, ◌^◌, ◌<◌, List, [], ◌∷◌, ◌++◌, length, get_or, slice_index, bit_xor, refl, sym, ap, ap₂, subst, ◌∙◌, arith, mul-one, add-one, length-append, get_or-append-add}
 use Rattle.std.specs.Int.{bit_at}
-use Rattle.std.specs.List.{range_with_len}
 use Rattle.std.proofs.Math.ListN.{get_or-append}
-use Rattle.std.proofs.lemmas.List.FromFn.{get_or-map-range_with_len}
-use Rattle.std.proofs.lemmas.Nat.{xor_shr, and_mask, mod_below}
+use Rattle.std.proofs.lemmas.Nat.{xor_shr}
 use Rattle.std.proofs.lemmas.Nat.Bits.{bit_at-lt, bit_at_lowest, same_from_bits_below}
-use Rattle.std.specs.Int.Bits.{xor_zero_r}
+use Rattle.std.specs.Int.Bits.{xor_self}
 use Rattle.aes.specs.Polynomial.{polynomial_sum, polynomial_remainder}
 use Rattle.aes.specs.PolynomialLaws.{IsLinear, PolynomialLaws}
 use Rattle.modes.specs.Ghash.{reflect, modulus, block_product, times_h, ghash_number}
 use Rattle.modes.specs.Code.Shifts.{shifted}
-use Rattle.aes.proofs.Lemmas.{xor_swap}
+use Rattle.aes.proofs.Lemmas.{all_below, equal_below, xor_swap}
 
 -- the remainder of x ^ i times the polynomial of h; and the part of the product that comes from the first i coefficients of x
 abbrev pub power_of : ℕ → ℕ → ℕ
@@ -20,39 +18,10 @@ power_of h i = polynomial_remainder 128 modulus 128 (reflect h * 2 ^ i)
 abbrev pub product_of : ℕ → ℕ → ℕ → ℕ
 product_of x h i = polynomial_sum (λ j. bit_at (reflect x) j * power_of h j) i
 
-is_one : (b : ℕ) → b < 2 → (b ≡ 0 → ⊥) → b ≡ 1
-is_one b h n = omega arith
-
--- ---- a block times x
-
-pub shift_low : (v : ℕ) → bit_and v 1 ≡ 0 → v / 2 ≡ shifted v
-unfolding shifted
-shift_low v e =
-    let z : v % 2 ≡ 0 = sym (and_mask v 1) ∙ e in
-    sym (ap (λ b. bit_xor (v / 2) (b * (0xe1 * 2 ^ 120))) z ∙ ap (bit_xor (v / 2)) (zero-mul (0xe1 * 2 ^ 120)) ∙ xor_zero_r (v / 2))
-
-pub shift_high : (v : ℕ) → (bit_and v 1 ≡ 0 → ⊥) → bit_xor (v / 2) (0xe1 * 2 ^ 120) ≡ shifted v
-unfolding shifted
-shift_high v e =
-    let o : v % 2 ≡ 1 = is_one (v % 2) (mod_below v 2 (omega arith)) (λ z. e (and_mask v 1 ∙ z)) in
-    sym (ap (λ b. bit_xor (v / 2) (b * (0xe1 * 2 ^ 120))) o ∙ ap (bit_xor (v / 2)) (one-mul (0xe1 * 2 ^ 120)))
-
--- In a sum of two sums, the two middle terms may be exchanged.
--- The step of the code and the multiplication by x agree at each power of x.
-steps_agree : map (λ i. reflect (shifted (2 ^ i))) (range_with_len 0 128)
-    ≡ map (λ i. polynomial_remainder 128 modulus 1 (reflect (2 ^ i) * 2)) (range_with_len 0 128)
-unfolding reflect shifted polynomial_sum polynomial_remainder
-steps_agree = refl
-
+-- The shift and the multiplication by x agree at each power of x.
 step_agrees : (i : ℕ) → i < 128 → reflect (shifted (2 ^ i)) ≡ polynomial_remainder 128 modulus 1 (reflect (2 ^ i) * 2)
-step_agrees i l =
-    sym (get_or-map-range_with_len (λ i. reflect (shifted (2 ^ i))) 0 128 i i 0 l (omega arith))
-    ∙ ap (λ xs. get_or xs i 0) steps_agree
-    ∙ get_or-map-range_with_len (λ i. polynomial_remainder 128 modulus 1 (reflect (2 ^ i) * 2)) 0 128 i i 0 l (omega arith)
-
-pub reflect_zero : reflect 0 ≡ 0
-unfolding reflect polynomial_sum
-reflect_zero = refl
+unfolding all_below reflect shifted polynomial_sum polynomial_remainder
+step_agrees i l = equal_below (λ i. reflect (shifted (2 ^ i))) (λ i. polynomial_remainder 128 modulus 1 (reflect (2 ^ i) * 2)) 128 i refl l
 
 module _ (laws : PolynomialLaws) where
   -- ---- the polynomial of a block
@@ -108,6 +77,9 @@ module _ (laws : PolynomialLaws) where
   unfolding block_product
   product_is x h = ap reflect (laws.remainder_product 127 modulus (reflect x) (reflect h) (reflect_lt h))
 
+  pub product_lt : (x h : ℕ) → block_product x h < 2 ^ 128
+  product_lt x h = subst (λ v. v < 2 ^ 128) (sym (product_is x h)) (reflect_lt (product_of x h 128))
+
   -- ---- Horner's rule
 
   pub product_linear : (h : ℕ) → IsLinear (λ x. block_product x h)
@@ -119,6 +91,9 @@ module _ (laws : PolynomialLaws) where
       ∙ laws.sum_of_sums (λ j. bit_at (reflect x) j * power_of h j) (λ j. bit_at (reflect y) j * power_of h j) 128)
       ∙ reflect_linear (product_of x h 128) (product_of y h 128)
       ∙ ap₂ bit_xor (sym (product_is x h)) (sym (product_is y h))
+
+  pub product_zero : (h : ℕ) → block_product 0 h ≡ 0
+  product_zero h = product_linear h 0 0 ∙ xor_self (block_product 0 h)
 
   -- With one more block, the hash is the sum of the hash so far and the block, times h.
   pub one_more : (h : ℕ) (xs : List ℕ) (x : ℕ) → block_product (bit_xor (ghash_number h xs) x) h ≡ ghash_number h (xs ++ x ∷ [])

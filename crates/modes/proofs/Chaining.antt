@@ -1,12 +1,13 @@
 -- Chaining over a text that comes in pieces.
-use Rattle.std.proofs.Common.{◌≡◌, ℕ, zero, suc, ◌+◌, ◌*◌, ◌/◌, ◌<◌, ◌≤◌, List, [], ◌++◌, length, drop, map, sym, ap, ap₂, ◌∙◌, arith, refl, length-append, length-drop}
-use Rattle.std.specs.List.{between, range_with_len, concat}
+use Rattle.std.proofs.Common.{◌≡◌, ℕ, zero, suc, ◌+◌, ◌*◌, ◌/◌, ◌<◌, ◌≤◌, List, [], ◌++◌, length, drop, map, bit_xor, sym, ap, ap₂, ◌∙◌, arith, refl, length-append, length-drop}
+use Rattle.std.specs.List.{range_with_len, concat}
+use Rattle.std.specs.Simd.Lanes.{zip2}
 use Rattle.std.proofs.lemmas.List.{length-take-le}
 use Rattle.octets.specs.Octets.{xor_octets}
 use Rattle.modes.specs.Cbc.{block, chained, cbc_blocks}
-use Rattle.octets.proofs.Lemmas.{chunk_is, chunk_front, chunk_back, chunks_joined}
+use Rattle.octets.proofs.Lemmas.{chunk_front, chunk_back, chunks_joined}
 use Rattle.modes.proofs.Blocks.{joined-add, joined-same}
-use Rattle.modes.proofs.Sums.{xor_turned}
+use Rattle.modes.proofs.Sums.{xor_turned, xor_zipped}
 
 pub blocks_are : (e : List ℕ → List ℕ) (iv p : List ℕ) (n : ℕ) → length p / 16 ≡ n → cbc_blocks e iv p ≡ concat (map (chained e iv p) (range_with_len 1 n))
 unfolding cbc_blocks
@@ -23,11 +24,11 @@ blocks_from e iv p c n h k same =
 
 -- One more block is added as in the code.
 pub chained_more : (e : List ℕ → List ℕ) (iv p previous : List ℕ) (i : ℕ) → previous ≡ chained e iv p i → length previous ≡ 16 → 16 * i + 16 ≤ length p
-    → e (xor_octets previous (between (16 * i) (16 * i + 16) p)) ≡ chained e iv p (suc i)
+    → e (zip2 bit_xor previous (block p i)) ≡ chained e iv p (suc i)
 unfolding chained
 chained_more e iv p previous i is long room =
-    let sixteen : length (block p i) ≡ 16 = length-take-le 16 (drop (16 * i) p) (omega (arith, length-drop (16 * i) p)) in
-    ap e (ap (xor_octets previous) (chunk_is 16 p i) ∙ xor_turned previous (block p i) (long ∙ sym sixteen) ∙ ap (xor_octets (block p i)) is)
+    let same : length previous ≡ length (block p i) = long ∙ sym (length-take-le 16 (drop (16 * i) p) (omega (arith, length-drop (16 * i) p))) in
+    ap e (xor_zipped previous (block p i) same ∙ xor_turned previous (block p i) same ∙ ap (xor_octets (block p i)) is)
 
 -- ---- after whole blocks, chaining goes on from the last block of their ciphertext
 

@@ -11,8 +11,15 @@ pub mod Fronts
 pub mod BlockProduct
 pub mod Shifts
 pub mod Reduction
-pub mod Chains
-pub mod Multiples
+pub mod Rows
+pub mod Digits
+pub mod Holes
+pub mod Columns
+pub mod Karatsuba
+pub mod Lanes
+pub mod Products
+pub mod Halves
+pub mod Squares
 pub mod Numbers
 pub mod Protecting
 pub mod Octets

@@ -2,28 +2,23 @@
 use Rattle.std.proofs.Common.{◌≡◌, ℕ, zero, suc, ◌+◌, ◌*◌, ◌/◌, ◌%◌, ◌^◌, bit_xor, refl, sym, ap, ap₂, ◌∙◌, arith, zero-mul, mul-one}
 use Rattle.std.specs.Int.Bits.{xor_zero_r}
 use Rattle.std.proofs.Math.Nat.{mul_assoc, pow-succ'}
-use Rattle.std.proofs.lemmas.Nat.{shr_split}
 use Rattle.aes.specs.PolynomialLaws.{IsLinear, PolynomialLaws}
 use Rattle.modes.specs.Code.Shifts.{shifted, shifts}
 use Rattle.modes.proofs.BlockProduct.{shifted_linear}
 
-shifted_double : (v : ℕ) → shifted (v * 2) ≡ v
+pub shifted_double : (v : ℕ) → shifted (v * 2) ≡ v
 unfolding shifted
 shifted_double v =
     ap₂ (λ a b. bit_xor a (b * (0xe1 * 2 ^ 120))) (let e : v * 2 / 2 ≡ v = omega arith in e) (let e : v * 2 % 2 ≡ 0 = omega arith in e)
     ∙ ap (bit_xor v) (zero-mul (0xe1 * 2 ^ 120))
     ∙ xor_zero_r v
 
-pub shifts_plus : (v m n : ℕ) → shifts (shifts v m) n ≡ shifts v (m + n)
+shifts_plus : (v m n : ℕ) → shifts (shifts v m) n ≡ shifts v (m + n)
 unfolding shifts
 shifts_plus v m zero = ap (shifts v) (let e : m ≡ m + 0 = omega arith in e)
 shifts_plus v m (suc n) = ap shifted (shifts_plus v m n) ∙ ap (shifts v) (let e : suc (m + n) ≡ m + suc n = omega arith in e)
 
--- The order of two shifts does not matter.
-pub shifts_turned : (v m n : ℕ) → shifts (shifts v m) n ≡ shifts (shifts v n) m
-shifts_turned v m n = shifts_plus v m n ∙ ap (shifts v) (let e : m + n ≡ n + m = omega arith in e) ∙ sym (shifts_plus v n m)
-
-pub power_more : (v k : ℕ) → v * 2 ^ suc k ≡ v * 2 * 2 ^ k
+power_more : (v k : ℕ) → v * 2 ^ suc k ≡ v * 2 * 2 ^ k
 power_more v k = ap (λ p. v * p) (pow-succ' 2 k) ∙ sym (mul_assoc v 2 (2 ^ k))
 
 -- If the last k bits are 0, no bit is shifted out.
@@ -38,15 +33,6 @@ shifts_whole v (suc k) =
 -- If more than k bits are shifted, the k zeros are shifted out first.
 pub shifts_part : (v k n : ℕ) → shifts (v * 2 ^ k) (k + n) ≡ shifts v n
 shifts_part v k n = sym (shifts_plus (v * 2 ^ k) k n) ∙ ap (λ w. shifts w n) (shifts_whole v k)
-
--- A shift that loses no bit may come before the other shifts or after them.
-pub shifts_quotient : (v k n : ℕ) → v % 2 ^ k ≡ 0 → shifts (v / 2 ^ k) n ≡ shifts (shifts v n) k
-shifts_quotient v k n e =
-    let whole : v / 2 ^ k * 2 ^ k ≡ v = omega (arith, shr_split v k, e) in
-    sym (shifts_part (v / 2 ^ k) k n)
-    ∙ ap (λ w. shifts w (k + n)) whole
-    ∙ sym (shifts_plus v k n)
-    ∙ shifts_turned v k n
 
 -- The shift of a sum is the sum of the shifts.
 module _ (laws : PolynomialLaws) where

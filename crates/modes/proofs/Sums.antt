@@ -4,6 +4,8 @@ use Rattle.std.proofs.lemmas.List.{ext_get_or, get_or_past}
 use Rattle.std.proofs.lemmas.List.FromFn.{length-map-range_with_len, get_or-map-range_with_len}
 use Rattle.std.proofs.lemmas.Bool.{cases_lt}
 use Rattle.std.proofs.lemmas.Nat.{xor_comm, xor_lt}
+use Rattle.std.proofs.lemmas.Simd.{length-zip2, get_or-zip2}
+use Rattle.std.specs.Simd.Lanes.{zip2}
 use Rattle.aes.specs.Block.{IsBlock}
 use Rattle.octets.specs.Octets.{xor_octets}
 use Rattle.aes.proofs.Lemmas.{xor_twice}
@@ -15,6 +17,12 @@ length-xor x y = length-map-range_with_len (λ i. bit_xor (slice_index x i) (sli
 pub at-xor : (x y : List ℕ) (i : ℕ) → i < length x → slice_index (xor_octets x y) i ≡ bit_xor (slice_index x i) (slice_index y i)
 unfolding xor_octets
 at-xor x y i h = get_or-map-range_with_len (λ i. bit_xor (slice_index x i) (slice_index y i)) 0 (length x) i i 0 h (omega arith)
+
+-- the sum of two vectors
+pub xor_zipped : (x y : List ℕ) → length x ≡ length y → zip2 bit_xor x y ≡ xor_octets x y
+xor_zipped x y h = ext_get_or 0 (zip2 bit_xor x y) (xor_octets x y) (length-zip2 bit_xor x y h ∙ sym (length-xor x y)) (λ i l.
+    let m : i < length x = subst (λ n. i < n) (length-zip2 bit_xor x y h) l in
+    get_or-zip2 bit_xor x y i 0 0 0 m (subst (λ n. i < n) h m) ∙ sym (at-xor x y i m))
 
 pub xor_turned : (x y : List ℕ) → length x ≡ length y → xor_octets x y ≡ xor_octets y x
 xor_turned x y h = ext_get_or 0 (xor_octets x y) (xor_octets y x) (length-xor x y ∙ h ∙ sym (length-xor y x)) (λ i l.

@@ -4,7 +4,8 @@ ghost use Rattle.modes.specs.Cbc.{cbc, cbc_blocks, chained};
 
 use crate::partial_block::PartialBlock;
 use aes::Block;
-use octets::{PIECE, SEALED_PIECE, xor_into};
+use octets::{PIECE, SEALED_PIECE};
+use std::simd::u8x16;
 
 /// An encryption by CBC whose plaintext comes in pieces.
 #[derive(Drop)]
@@ -82,8 +83,8 @@ fn encrypt_blocks<B: Block>(cipher: &B, previous: &mut [u8; 16], blocks: &[u8], 
     ensures text { out.new ≡ cbc_blocks (B.encrypted cipher.now) previous.old blocks.now }
 {
     for i in 0..blocks.len() / 16 {
-        xor_into(previous, &blocks[16 * i..16 * i + 16]);
-        *previous = cipher.encrypt(previous);
+        let input = u8x16::from_array(*previous) ^ u8x16::from_slice(&blocks[16 * i..]);
+        *previous = cipher.encrypt(&input.to_array());
         out[16 * i..16 * i + 16].copy_from_slice(previous);
     }
 }

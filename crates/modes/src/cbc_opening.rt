@@ -92,21 +92,8 @@ fn open_later_blocks<B: Block>(cipher: &B, buf: &mut [u8], first: usize, end: us
 {
     let mut room = [0; 256];
     let opened = &mut room[..16 * (end - first)];
-    decrypt_blocks(cipher, &buf[16 * first..16 * end], opened);
+    opened.copy_from_slice(&buf[16 * first..16 * end]);
+    cipher.decrypt_blocks(opened);
     xor_into(opened, &buf[16 * (first - 1)..16 * (end - 1)]);
     buf[16 * first..16 * end].copy_from_slice(opened);
-}
-
-/// Decrypts whole blocks, each by itself.
-fn decrypt_blocks<B: Block>(cipher: &B, blocks: &[u8], out: &mut [u8])
-    requires whole { length blocks.now % 16 ≡ 0 }
-    requires place { length out.old ≡ length blocks.now }
-    ensures { (i : ℕ) → 16 * i + 16 ≤ length blocks.now
-        → block out.new i ≡ B.decrypted cipher.now (block blocks.now i) }
-{
-    for i in 0..blocks.len() / 16 {
-        let mut ciphertext = [0; 16];
-        ciphertext.copy_from_slice(&blocks[16 * i..16 * i + 16]);
-        out[16 * i..16 * i + 16].copy_from_slice(&cipher.decrypt(&ciphertext));
-    }
 }

@@ -126,9 +126,22 @@ impl KeyStream {
             → block self.new.blocks i ≡ B.encrypted cipher.now (counter_block f (n + (i - first))) }
         ensures used { self.new.used ≡ self.old.used }
     {
+        self.write_counters(first);
+        cipher.encrypt_blocks(&mut self.blocks[16 * first..]);
+    }
+
+    /// The next counter blocks, at the places from `first` to 15.
+    fn write_counters(&mut self, first: usize)
+        requires { first < 16 }
+        ensures counter { (f : List ℕ) (n : ℕ) → length f ≡ 16 → self.old.counter ≡ counter_block f n
+            → self.new.counter ≡ counter_block f (n + (16 - first)) }
+        ensures blocks { (f : List ℕ) (n : ℕ) → length f ≡ 16 → self.old.counter ≡ counter_block f n
+            → (i : ℕ) → first ≤ i → i < 16 → block self.new.blocks i ≡ counter_block f (n + (i - first)) }
+        ensures used { self.new.used ≡ self.old.used }
+    {
         for i in first..16 {
-            let block = cipher.encrypt(&self.counter);
-            self.blocks[16 * i..16 * i + 16].copy_from_slice(&block);
+            let counter = self.counter;
+            self.blocks[16 * i..16 * i + 16].copy_from_slice(&counter);
             self.count_up();
         }
     }

@@ -1,5 +1,7 @@
 //! GHASH of a text that comes in pieces (SP 800-38D sections 6.3 and 6.4).
-ghost use Rattle.std.specs.Prelude.{◌≡◌, ℕ, ◌+◌, ◌%◌, ◌<◌, List, [], ◌∷◌, ◌++◌, length, take};
+ghost use Rattle.std.specs.Prelude.{◌≡◌, ℕ, ◌+◌, ◌*◌, ◌%◌, ◌<◌, ◌≤◌, List, [], ◌∷◌, ◌++◌, length, take};
+ghost use Rattle.std.specs.Int.{w128, from_be_bytes};
+ghost use Rattle.modes.specs.Cbc.{block};
 ghost use Rattle.modes.specs.Ghash.{ghash_number, numbers, zero_filled, ghash};
 
 use crate::hash_subkey::HashSubkey;
@@ -72,12 +74,41 @@ fn add_blocks(sum: u128, subkey: &HashSubkey, blocks: &[u8]) -> u128
         → result ≡ ghash_number subkey.now.h (xs ++ numbers blocks.now) }
 {
     let mut total = sum;
-    for i in 0..blocks.len() / 16 {
-        let mut block = [0; 16];
-        block.copy_from_slice(&blocks[16 * i..16 * i + 16]);
-        total = add_block(total, subkey, u128::from_be_bytes(block));
+    let pairs = blocks.len() / 32;
+    for i in 0..pairs {
+        total = add_both(
+            total,
+            subkey,
+            block_at(blocks, 2 * i),
+            block_at(blocks, 2 * i + 1),
+        );
     }
-    total
+    if blocks.len() % 32 == 0 {
+        total
+    } else {
+        add_block(total, subkey, block_at(blocks, 2 * pairs))
+    }
+}
+
+/// Block i as a number.
+#[inline(always)]
+fn block_at(blocks: &[u8], i: usize) -> u128
+    requires { 16 * i + 16 ≤ length blocks.now }
+    ensures { result ≡ from_be_bytes w128 (block blocks.now i) }
+{
+    let mut block = [0; 16];
+    block.copy_from_slice(&blocks[16 * i..16 * i + 16]);
+    u128::from_be_bytes(block)
+}
+
+/// The sum with two more blocks.
+#[inline(always)]
+fn add_both(sum: u128, subkey: &HashSubkey, x: u128, y: u128) -> u128
+    ensures { (xs : List ℕ) → sum ≡ ghash_number subkey.now.h xs
+        → result ≡ ghash_number subkey.now.h ((xs ++ x ∷ []) ++ y ∷ []) }
+{
+    polynomial_laws();
+    subkey.times_both(sum ^ x, y)
 }
 
 /// The sum with one more block.

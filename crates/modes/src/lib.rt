@@ -19,6 +19,7 @@ mod ghash;
 mod hash_subkey;
 pub mod laws;
 mod partial_block;
+mod polynomial_product;
 mod unreduced;
 
 pub use cbc::Cbc;
@@ -31,5 +32,7 @@ pub use ghash::Ghash;
 mod gcm_tests;
 #[cfg(test)]
 mod long_tests;
+#[cfg(test)]
+mod product_tests;
 #[cfg(test)]
 mod tests;

@@ -1,7 +1,9 @@
 //! Polynomials of degree below 256, as products are before their reduction (SP 800-38D section 6.3).
-ghost use Rattle.std.specs.Prelude.{◌≡◌, ◌+◌, ◌*◌, ◌/◌, ◌^◌, ◌<◌, bit_xor};
+ghost use Rattle.std.specs.Prelude.{◌≡◌, ◌*◌, ◌/◌, ◌%◌, ◌^◌, ◌<◌, bit_xor};
+ghost use Rattle.aes.specs.Polynomial.{polynomial_product};
 ghost use Rattle.modes.specs.Code.Shifts.{shifts};
 
+use crate::polynomial_product::sum_of_products;
 use aes::laws::polynomial_laws;
 use std::marker::Model;
 
@@ -21,45 +23,36 @@ impl Model for Unreduced {
 }
 
 impl Unreduced {
-    /// The polynomial 0.
-    pub(crate) fn zero() -> Unreduced
-        ensures { result ≡ 0 }
+    /// The sum of the product of `a` and `x` and that of `b` and `y`, by Karatsuba's three products of halves.
+    #[inline(always)]
+    pub(crate) fn sum_of_products(a: u128, x: u128, b: u128, y: u128) -> Unreduced
+        ensures { result ≡ bit_xor (polynomial_product 128 a x) (polynomial_product 128 b y) }
     {
-        Unreduced { high: 0, low: 0 }
-    }
-
-    /// One step of Horner's rule: the sum of this times x ^ 8, the block `front`, and the block `back` times x ^ 64.
-    pub(crate) fn next(self, front: u128, back: u128) -> Unreduced
-        ensures { result ≡ bit_xor (self / 2 ^ 8) (bit_xor (front * 2 ^ 128) (back * 2 ^ 64)) }
-    {
-        self.shifted_right(8).plus(Unreduced {
-            high: front ^ (back >> 64),
-            low: back << 64,
-        })
-    }
-
-    /// This shifted to the right by n bits, which is this times x ^ n if its last n coefficients are 0.
-    pub(crate) fn shifted_right(self, n: u32) -> Unreduced
-        requires { (0 < n) × (n < 128) }
-        ensures { result ≡ self / 2 ^ n }
-    {
+        let (a1, a0, x1, x0) = (high_half(a), low_half(a), high_half(x), low_half(x));
+        let (b1, b0, y1, y0) = (high_half(b), low_half(b), high_half(y), low_half(y));
+        let front = sum_of_products(a1, x1, b1, y1);
+        let back = sum_of_products(a0, x0, b0, y0);
+        let middle = sum_of_products(a1 ^ a0, x1 ^ x0, b1 ^ b0, y1 ^ y0) ^ front ^ back;
         Unreduced {
-            high: self.high >> n,
-            low: (self.low >> n) ^ (self.high << (128 - n)),
+            high: front ^ (middle >> 64),
+            low: back ^ (middle << 64),
         }
     }
 
-    /// The sum of both.
-    pub(crate) fn plus(self, other: Unreduced) -> Unreduced
-        ensures { result ≡ bit_xor self other }
+    /// This shifted to the left by one bit.
+    #[inline(always)]
+    pub(crate) fn doubled(self) -> Unreduced
+        requires { self < 2 ^ 255 }
+        ensures { result ≡ self * 2 }
     {
         Unreduced {
-            high: self.high ^ other.high,
-            low: self.low ^ other.low,
+            high: (self.high << 1) ^ (self.low >> 127),
+            low: self.low << 1,
         }
     }
 
     /// The remainder as a block: x ^ 128 is replaced by 1 + x + x ^ 2 + x ^ 7.
+    #[inline(always)]
     pub(crate) fn reduced(self) -> u128
         ensures { result ≡ shifts self 128 }
     {
@@ -69,4 +62,18 @@ impl Unreduced {
         let whole = low ^ (low << 127) ^ (low << 126) ^ (low << 121);
         self.high ^ (whole ^ (whole >> 1) ^ (whole >> 2) ^ (whole >> 7))
     }
+}
+
+#[inline(always)]
+fn high_half(x: u128) -> u64
+    ensures { result ≡ x / 2 ^ 64 }
+{
+    (x >> 64) as u64
+}
+
+#[inline(always)]
+fn low_half(x: u128) -> u64
+    ensures { result ≡ x % 2 ^ 64 }
+{
+    (x & 0xffff_ffff_ffff_ffff) as u64
 }

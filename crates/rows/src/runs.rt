@@ -112,11 +112,16 @@ impl<'a> Read for Breaking<'a> {
 /// The words of a command line, which have one blank between them, and more words after them.
 pub(crate) fn words_of(alloc: Global, line: &[u8], more: &[&[u8]]) -> Result<Vec<String>, Bad> {
     let mut words = Vec::new(alloc);
-    for word in str::from_utf8(line).unwrap_or("").split(' ') {
+    for word in text_of(line).split(' ') {
         words.push(String::from_str(alloc, word)?)?;
     }
     for word in more {
-        words.push(String::from_str(alloc, str::from_utf8(word).unwrap_or(""))?)?;
+        words.push(String::from_str(alloc, text_of(word))?)?;
     }
     Ok(words)
+}
+
+/// The octets as text, or nothing if they are none.
+fn text_of(octets: &[u8]) -> &str {
+    str::from_utf8(octets).unwrap_or("")
 }

@@ -1,22 +1,30 @@
-/* Makes a key of 100 octets and an initialization vector of 12, and prints each, or why it was refused. It is compiled as C and as C++. */
+/* Makes a key of 100 octets and an object for a set of keys, which is the first word, by a template, which is the second. It prints both in
+   a line, or why they were refused. With a third word, eight threads do so. It is compiled as C and as C++. */
 #include "lakhdzeva.h"
 
+#include <pthread.h>
 #include <stdio.h>
 #include <string.h>
 
-#define TEXT(text) (text), sizeof(text) - 1
+static char **words;
 
-int main(void) {
-    char text[8192];
-    size_t length;
-    uint32_t status = lakhdzeva_generate(TEXT("{\"bytes\":100}"), text, sizeof text, &length);
-    if (status) printf("%u %s\n", (unsigned)status, lakhdzeva_name(status));
-    else printf("%.*s\n", (int)length, text);
-    status = lakhdzeva_encrypt(TEXT("{\"alg\":\"A128GCM\",\"k\":\"AAAAAAAAAAAAAAAAAAAAAA\",\"kty\":\"oct\"}"), NULL, 0, LAKHDZEVA_COMPACT, TEXT("hello"), text,
-        sizeof text - 1, &length, NULL, 0, NULL);
-    text[length] = 0;
-    const char *vector = strstr(text, "..");
-    if (status) printf("%u %s\n", (unsigned)status, lakhdzeva_name(status));
-    else printf("%.16s\n", vector ? vector + 2 : "no vector");
+static void *draw(void *nothing) {
+    char key[8192], object[8192];
+    size_t length[2];
+    uint32_t status[2] = {lakhdzeva_generate("{\"bytes\":100}", 13, key, sizeof key, &length[0]),
+        lakhdzeva_encrypt(words[1], strlen(words[1]), words[2], strlen(words[2]), 0, "hello", 5, object, sizeof object, &length[1], NULL, 0, NULL)};
+    if (status[0]) length[0] = (size_t)sprintf(key, "%u %s", (unsigned)status[0], lakhdzeva_name(status[0]));
+    if (status[1]) length[1] = (size_t)sprintf(object, "%u %s", (unsigned)status[1], lakhdzeva_name(status[1]));
+    printf("%.*s\t%.*s\n", (int)length[0], key, (int)length[1], object);
+    return nothing;
+}
+
+int main(int count, char **given) {
+    words = given;
+    if (count == 3) return draw(NULL) != NULL;
+    pthread_t threads[8];
+    for (int at = 0; at < 8; at++)
+        if (pthread_create(&threads[at], NULL, draw, NULL)) return 1;
+    for (int at = 0; at < 8; at++) pthread_join(threads[at], NULL);
     return 0;
 }

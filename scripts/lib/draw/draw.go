@@ -3,22 +3,39 @@ package main
 
 import (
 	"fmt"
-	"strings"
+	"os"
+	"runtime"
+	"sync"
 
 	"lakhdzeva"
 )
 
+func text(answer []byte, err error) string {
+	if err != nil {
+		return err.Error()
+	}
+	return string(answer)
+}
+
+func draw() {
+	key := text(lakhdzeva.Generate([]byte(`{"bytes":100}`)))
+	object := text(lakhdzeva.Encrypt([]byte(os.Args[1]), []byte(os.Args[2]), lakhdzeva.Object, []byte("hello")))
+	fmt.Printf("%s\t%s\n", key, object)
+}
+
 func main() {
-	key, err := lakhdzeva.Generate([]byte(`{"bytes":100}`))
-	if err != nil {
-		fmt.Println(err)
-	} else {
-		fmt.Println(string(key))
+	if len(os.Args) == 3 {
+		draw()
+		return
 	}
-	token, err := lakhdzeva.Encrypt([]byte(`{"alg":"A128GCM","k":"AAAAAAAAAAAAAAAAAAAAAA","kty":"oct"}`), nil, lakhdzeva.Compact, []byte("hello"))
-	if err != nil {
-		fmt.Println(err)
-	} else {
-		fmt.Println(strings.Split(string(token), ".")[2])
+	var group sync.WaitGroup
+	for thread := 0; thread < 8; thread++ {
+		group.Add(1)
+		go func() {
+			defer group.Done()
+			runtime.LockOSThread()
+			draw()
+		}()
 	}
+	group.Wait()
 }

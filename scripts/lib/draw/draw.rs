@@ -2,18 +2,24 @@
 
 use lakhdzeva::{encrypt, generate, Form, Refusal};
 
-const KEY: &[u8] = br#"{"alg":"A128GCM","k":"AAAAAAAAAAAAAAAAAAAAAA","kty":"oct"}"#;
+fn text(answer: Result<Vec<u8>, Refusal>) -> String {
+    answer.map_or_else(|refusal| refusal.to_string(), |octets| String::from_utf8(octets).unwrap())
+}
 
-fn show(answer: Result<Vec<u8>, Refusal>, part: fn(&str) -> &str) {
-    match answer {
-        Ok(octets) => println!("{}", part(&String::from_utf8_lossy(&octets))),
-        Err(refusal) => println!("{refusal}"),
-    }
+fn draw(keys: &str, template: &str) {
+    let key = text(generate(br#"{"bytes":100}"#));
+    let object = text(encrypt(keys.as_bytes(), template.as_bytes(), Form::Json, b"hello"));
+    println!("{key}\t{object}");
 }
 
 fn main() {
-    show(generate(br#"{"bytes":100}"#), |key| key);
-    show(encrypt(KEY, b"{}", Form::Compact, b"hello"), |token| {
-        token.split('.').nth(2).unwrap_or("no vector")
+    let words: Vec<String> = std::env::args().collect();
+    if words.len() == 3 {
+        return draw(&words[1], &words[2]);
+    }
+    std::thread::scope(|scope| {
+        for _ in 0..8 {
+            scope.spawn(|| draw(&words[1], &words[2]));
+        }
     });
 }

@@ -27,7 +27,8 @@ What to mind with every function:
 - The member ``kid`` never selects a key: each key that you pass is tried.
 - If a name is repeated in a JSON object, the last one counts.
 - An object takes at most 8 times its length in memory, and JSON of many small objects 270 times. So limit the length of a stranger's text.
-- Memory that held keys and plaintext is not wiped, and the timing of AES, which uses tables, depends on the key.
+- The library wipes the memory that it used. Python's own is not wiped: keys and plaintext can stay there.
+- The timing of reading a key's text depends on the key.
 
 The module has no state. Any number of threads may call its functions, and they run at the same time. A thread needs 256 KiB of stack,
 which ``threading.stack_size`` can set too low. Nothing ends a call before it returns: an exception of a signal handler, such as
@@ -40,7 +41,7 @@ import ctypes
 import json
 import os
 import sys
-from ctypes import byref, c_bool, c_char, c_char_p, c_size_t, c_uint32, c_uint64, c_void_p
+from ctypes import byref, c_char, c_char_p, c_size_t, c_uint, c_uint32, c_uint64, c_void_p
 from pathlib import Path
 from typing import Any, Dict, List, Literal, Optional, Tuple, Union, overload
 
@@ -79,19 +80,13 @@ __version__ = _read_version()
 
 # ---- Refusals
 
-_NAMES = (
-    "Ok Usage Read Write Memory Random Base64 Json Number Key Form Header Unsupported NoAlgorithm KeyDoesNotFit Limit NotCompact NotOpened"
-).split()
-_WRITE = _NAMES.index("Write")
-_RANDOM = _NAMES.index("Random")
-
 
 class Refused(Exception):
     """The library refused a call. The text is the number and the name, such as ``17 NotOpened``. The numbers stay the same.
 
     - 1 ``Usage``: the hash of a thumbprint is not supported.
     - 2 ``Read``: never.
-    - 3 ``Write``: a place for the answer is too small. It shows a fault of this module.
+    - 3 ``Write``: never, since each place is large enough.
     - 4 ``Memory``: an allocation of the library failed.
     - 5 ``Random``: the system gave no random octets.
     - 6 ``Base64``: a text that must be base64url is not.
@@ -114,7 +109,7 @@ class Refused(Exception):
     def __init__(self, number: int) -> None:
         super().__init__(number)
         self.number = number
-        self.name = _NAMES[number] if number < len(_NAMES) else "Unknown"
+        self.name = _name(number).decode()
 
     def __str__(self) -> str:
         return f"{self.number} {self.name}"
@@ -142,31 +137,42 @@ def _load() -> ctypes.CDLL:
 _LIBRARY = _load()
 
 
-def _function(name: str, *arguments: Any) -> Any:
-    try:
-        function = getattr(_LIBRARY, "lakhdzeva_core_" + name)
-    except AttributeError as error:
-        raise ImportError(f"{_LIBRARY._name} is not version 3 of the shared library of lakhdzeva: {error}") from error
-    function.argtypes = arguments
-    function.restype = c_uint32
-    return function
-
-
 # A text is a pointer and a length. A place for an answer is a pointer, the octets that fit there, and a pointer to a length.
 _TEXT = (c_char_p, c_size_t)
 _PLACE = (c_void_p, c_size_t, ctypes.POINTER(c_size_t))
 
-_generate = _function("generate", *_TEXT, *_TEXT, *_PLACE)
-_thumbprints = _function("thumbprints", *_TEXT, c_uint32, *_PLACE)
-_sign = _function("sign", *_TEXT, *_TEXT, c_bool, c_bool, *_TEXT, *_PLACE)
-_verify = _function("verify", *_TEXT, *_TEXT, c_bool, *_PLACE)
-_verify_detached = _function("verify_detached", *_TEXT, *_TEXT, c_bool, *_TEXT)
+
+def _function(name: str, *arguments: Any, result: Any = c_uint32) -> Any:
+    try:
+        function = getattr(_LIBRARY, "lakhdzeva_" + name)
+    except AttributeError as error:
+        raise ImportError(f"{_LIBRARY._name} is not version 3 of the shared library of lakhdzeva: {error}") from error
+    function.argtypes = arguments
+    function.restype = result
+    return function
+
+
+def _room(name: str, lengths: int) -> Any:
+    """The function for the length that always suffices for an answer, by so many lengths."""
+    return _function(name + "_room", *[c_size_t] * lengths, result=c_size_t)
+
+
+_name = _function("name", c_uint32, result=c_char_p)
+_generate, _generate_room = _function("generate", *_TEXT, *_PLACE), _room("generate", 1)
+_thumbprints, _thumbprints_room = _function("thumbprints", *_TEXT, c_uint, *_PLACE), _room("thumbprints", 1)
+_sign, _sign_room = _function("sign", *_TEXT, *_TEXT, c_uint, *_TEXT, *_PLACE), _room("sign", 3)
+_verify, _verify_room = _function("verify", *_TEXT, *_TEXT, c_uint, *_PLACE), _room("verify", 1)
+_verify_detached = _function("verify_detached", *_TEXT, *_TEXT, c_uint, *_TEXT)
 _verify_all = _function("verify_all", *_TEXT, c_size_t, *_TEXT, *_PLACE)
 _verify_all_detached = _function("verify_all_detached", *_TEXT, c_size_t, *_TEXT, *_TEXT)
-_format_signed = _function("format_signed", *_TEXT, c_bool, *_TEXT, c_bool, c_bool, *_PLACE, *_PLACE)
-_encrypt = _function("encrypt", *_TEXT, *_TEXT, c_bool, c_bool, *_TEXT, *_TEXT, *_PLACE, *_PLACE)
-_decrypt = _function("decrypt", *_TEXT, *_TEXT, c_bool, *_TEXT, c_uint64, *_PLACE)
-_format_encrypted = _function("format_encrypted", *_TEXT, c_bool, *_TEXT, c_bool, c_bool, *_PLACE, *_PLACE)
+_encrypt, _encrypt_room = _function("encrypt", *_TEXT, *_TEXT, c_uint, *_TEXT, *_PLACE, *_PLACE), _room("encrypt", 3)
+_decrypt, _decrypt_room = _function("decrypt", *_TEXT, *_TEXT, *_TEXT, c_uint64, *_PLACE), _room("decrypt", 2)
+_format_signed = _function("format_signed", *_TEXT, *_TEXT, c_uint, *_PLACE, *_PLACE)
+_format_encrypted = _function("format_encrypted", *_TEXT, *_TEXT, c_uint, *_PLACE, *_PLACE)
+_format_room, _content_room, _ciphertext_room = _room("format", 2), _room("content", 2), _room("ciphertext", 1)
+
+# enum lakhdzeva_flags in lakhdzeva.h.
+_COMPACT, _DETACH, _ALL = 1, 2, 4
 
 # An array of no octets leads to the first octet of any place. One type for all lengths saves the time to make a type for each length.
 _Start = c_char * 0
@@ -191,78 +197,13 @@ class _Place:
         return str(memoryview(self.octets)[: self.length.value], "utf-8")
 
 
-def _written(function: Any, arguments: Tuple[Any, ...], room: int) -> _Place:
-    """Calls a function that writes one answer."""
-    place = _Place(room)
-    status = function(*arguments, *place.arguments())
-    if status == _WRITE:  # Never, if the room is right. Then the library has written nothing, and the length is the one that is needed.
-        place = _Place(place.length.value)
-        status = function(*arguments, *place.arguments())
+def _written(function: Any, arguments: Tuple[Any, ...], *rooms: int) -> List[_Place]:
+    """Calls a function that writes as many answers as there are rooms."""
+    places = [_Place(room) for room in rooms]
+    status = function(*arguments, *(it for place in places for it in place.arguments()))
     if status:
         raise Refused(status)
-    return place
-
-
-def _both_written(function: Any, arguments: Tuple[Any, ...], room: int, content_room: int) -> Tuple[_Place, _Place]:
-    """Calls a function that writes a text, and also a content if it is detached."""
-    place, content = _Place(room), _Place(content_room)
-    status = function(*arguments, *place.arguments(), *content.arguments())
-    if status == _WRITE:  # As above.
-        place, content = _Place(place.length.value), _Place(content.length.value)
-        status = function(*arguments, *place.arguments(), *content.arguments())
-    if status:
-        raise Refused(status)
-    return place, content
-
-
-# ---- Rooms, and random octets, as in lakhdzeva.h
-
-
-# The least octets of the text of a key: {"k":"AA","kty":"oct"}. One that signs has 32 octets or more, which are 43 characters.
-_LEAST_KEY = 22
-_LEAST_SIGNING_KEY = 63
-
-
-def _most_keys(keys: int, each: int = _LEAST_KEY) -> int:
-    """The most keys that a text of this length can have, if each takes at least so many octets."""
-    return min(keys // each + 1, 64)
-
-
-def _base64(octets: int) -> int:
-    """The length of a base64url text of so many octets, at most."""
-    return octets + octets // 3 + 2
-
-
-def _generate_room(wanted: int) -> int:
-    return wanted + 5632
-
-
-def _thumbprints_room(keys: int) -> int:
-    return 87 * _most_keys(keys)
-
-
-def _sign_room(keys: int, wanted: int, payload: int) -> int:
-    return _base64(payload) + _most_keys(keys, _LEAST_SIGNING_KEY) * (_base64(wanted + 32) + 192)
-
-
-def _encrypt_room(keys: int, wanted: int, plaintext: int) -> int:
-    return _base64(plaintext + 16) + _base64(wanted + 192) + (_most_keys(keys) + 2) * 256
-
-
-def _ciphertext_room(plaintext: int) -> int:
-    return plaintext + 16
-
-
-def _format_room(token: int, content: int) -> int:
-    return token + _base64(content) + 128
-
-
-def _draw(length: int) -> bytes:
-    """Random octets of the system, or none if it gives none. The library then refuses with Random."""
-    try:
-        return os.urandom(length)
-    except (OSError, NotImplementedError):
-        return b""
+    return places
 
 
 # ---- Arguments
@@ -344,6 +285,16 @@ def _flag(name: str, value: Any) -> bool:
     raise TypeError(f"{name} must be True or False, not of type {type(value).__name__}")
 
 
+def _form(compact: Any, detach: Any) -> int:
+    return _flag("compact", compact) * _COMPACT | _flag("detach", detach) * _DETACH
+
+
+def _content(name: str, value: Optional[Octets]) -> Tuple[Optional[bytes], int]:
+    """A content that is handed in, and its length. If it is in the token, there is none."""
+    octets = None if value is None else _octets(name, value)
+    return octets, len(octets or b"")
+
+
 def _number(name: str, value: Any) -> int:
     kind = type(value)
     if not issubclass(kind, int) or kind is bool:
@@ -366,15 +317,7 @@ def generate(wanted: Optional[Json] = None) -> Dict[str, Any]:
     Refusals: Json, Number and Key for a bad template, Limit, Unsupported, NoAlgorithm, KeyDoesNotFit, Random, Memory.
     """
     text = _wanted(wanted)
-    # An algorithm asks for at most 64 octets, and a template for at most 4,096.
-    for drawn in (64, 4096):
-        random = _draw(drawn)
-        try:
-            place = _written(_generate, (text, len(text), random, len(random)), _generate_room(len(text)))
-            break
-        except Refused as refused:
-            if refused.number != _RANDOM or drawn == 4096:
-                raise
+    (place,) = _written(_generate, (text, len(text)), _generate_room(len(text)))
     key: Dict[str, Any] = json.loads(place.text())
     return key
 
@@ -390,7 +333,8 @@ def thumbprints(keys: Keys, hash: Hash = "S256") -> List[str]:
         raise TypeError(f"hash must be a str, not {type(hash).__name__}")
     text = _keys(keys)
     bits = {"S224": 224, "S256": 256, "S384": 384, "S512": 512}.get(str.__str__(hash), 0)
-    return _written(_thumbprints, (text, len(text), bits), _thumbprints_room(len(text))).text().split("\n")
+    (lines,) = _written(_thumbprints, (text, len(text), bits), _thumbprints_room(len(text)))
+    return lines.text().split("\n")
 
 
 def thumbprint(key: Json, hash: Hash = "S256") -> str:
@@ -410,11 +354,9 @@ def thumbprint(key: Json, hash: Hash = "S256") -> str:
 def _verified(function: Any, detached: Any, arguments: Tuple[Any, ...], room: int, payload: Optional[Octets]) -> bytes:
     """Calls the function, or with a payload that is handed in the one for it, and returns the payload that was verified."""
     if payload is None:
-        return _written(function, arguments, room).content()
+        return _written(function, arguments, room)[0].content()
     octets = _octets("payload", payload)
-    status = detached(*arguments, octets, len(octets))
-    if status:
-        raise Refused(status)
+    _written(detached, (*arguments, octets, len(octets)))
     return octets
 
 
@@ -431,8 +373,9 @@ def sign(keys: Keys, payload: Octets, wanted: Optional[Json] = None, *, compact:
     KeyDoesNotFit, Limit, NotCompact, Memory.
     """
     text, template, octets = _keys(keys), _wanted(wanted), _octets("payload", payload)
-    arguments = (text, len(text), template, len(template), _flag("compact", compact), _flag("detach", detach), octets, len(octets))
-    return _written(_sign, arguments, _sign_room(len(text), len(template), len(octets))).text()
+    arguments = (text, len(text), template, len(template), _form(compact, detach), octets, len(octets))
+    (token,) = _written(_sign, arguments, _sign_room(len(text), len(template), 0 if detach else len(octets)))
+    return token.text()
 
 
 def verify(keys: Keys, token: Json, *, all: bool = False, payload: Optional[Octets] = None) -> bytes:
@@ -455,8 +398,8 @@ def verify(keys: Keys, token: Json, *, all: bool = False, payload: Optional[Octe
     KeyDoesNotFit if no key may verify a signature; NotOpened if no signature is right; Memory.
     """
     text, object_ = _keys(keys), _json("token", token)
-    arguments = (text, len(text), object_, len(object_), _flag("all", all))
-    return _verified(_verify, _verify_detached, arguments, len(object_), payload)
+    arguments = (text, len(text), object_, len(object_), _flag("all", all) * _ALL)
+    return _verified(_verify, _verify_detached, arguments, _verify_room(len(object_)), payload)
 
 
 def verify_all(keys: Keys, signers: int, token: Json, *, payload: Optional[Octets] = None) -> bytes:
@@ -476,7 +419,7 @@ def verify_all(keys: Keys, signers: int, token: Json, *, payload: Optional[Octet
     """
     text, number, object_ = _keys(keys), _number("signers", signers), _json("token", token)
     arguments = (text, len(text), number, object_, len(object_))
-    return _verified(_verify_all, _verify_all_detached, arguments, len(object_), payload)
+    return _verified(_verify_all, _verify_all_detached, arguments, _verify_room(len(object_)), payload)
 
 
 # ---- Encrypted tokens
@@ -519,14 +462,11 @@ def encrypt(
     Refusals: Json, Number, Key and Limit for bad keys; Json, Number, Form, Base64, Header and Unsupported for a bad template;
     NoAlgorithm, KeyDoesNotFit, Limit, NotCompact, Random, Memory.
     """
-    text, template, octets = _keys(keys), _wanted(wanted), _octets("plaintext", plaintext)
-    compact, detach = _flag("compact", compact), _flag("detach", detach)
-    # A content encryption key has at most 64 octets, an initialization vector 16, and a recipient draws at most 16.
-    random = _draw(80 + 16 * _most_keys(len(text)))
-    token, ciphertext = _both_written(
+    text, template, octets, flags = _keys(keys), _wanted(wanted), _octets("plaintext", plaintext), _form(compact, detach)
+    token, ciphertext = _written(
         _encrypt,
-        (text, len(text), template, len(template), compact, detach, random, len(random), octets, len(octets)),
-        _encrypt_room(len(text), len(template), len(octets)),
+        (text, len(text), template, len(template), flags, octets, len(octets)),
+        _encrypt_room(len(text), len(template), 0 if detach else len(octets)),
         _ciphertext_room(len(octets)) if detach else 0,
     )
     return (token.text(), ciphertext.content()) if detach else token.text()
@@ -554,9 +494,9 @@ def decrypt(keys: Keys, token: Json, *, ciphertext: Optional[Octets] = None, ite
     KeyDoesNotFit if no key may decrypt; Limit for too many iterations; NotOpened if no key decrypts; Memory.
     """
     text, object_, most = _keys(keys), _json("token", token), _number("iterations", iterations)
-    octets = b"" if ciphertext is None else _octets("ciphertext", ciphertext)
-    arguments = (text, len(text), object_, len(object_), ciphertext is not None, octets, len(octets), most)
-    return _written(_decrypt, arguments, max(len(object_), len(octets))).content()
+    content = _content("ciphertext", ciphertext)
+    (plaintext,) = _written(_decrypt, (text, len(text), object_, len(object_), *content, most), _decrypt_room(len(object_), content[1]))
+    return plaintext.content()
 
 
 # ---- Other forms
@@ -565,14 +505,13 @@ def decrypt(keys: Keys, token: Json, *, ciphertext: Optional[Octets] = None, ite
 def _formatted(
     function: Any, name: str, token: Json, compact: bool, detach: bool, content: Optional[Octets]
 ) -> Union[str, Tuple[str, bytes]]:
-    object_ = _json("token", token)
-    compact, detach = _flag("compact", compact), _flag("detach", detach)
-    octets = b"" if content is None else _octets(name, content)
-    text, detached = _both_written(
+    object_, flags = _json("token", token), _form(compact, detach)
+    octets, length = _content(name, content)
+    text, detached = _written(
         function,
-        (object_, len(object_), content is not None, octets, len(octets), compact, detach),
-        _format_room(len(object_), len(octets)),
-        max(len(object_), len(octets)) if detach else 0,
+        (object_, len(object_), octets, length, flags),
+        _format_room(len(object_), 0 if detach else length),
+        _content_room(len(object_), length) if detach else 0,
     )
     return (text.text(), detached.content()) if detach else text.text()
 

@@ -28,6 +28,5 @@ returns g c =
       outputs_after = c.run.new.outputs;
       new_inputs = c.inputs-inputs.ensures;
       new_outputs = c.outputs-outputs.ensures;
-      answer = c.run.ensures.answer;
-      faults = c.run.ensures.faults;
+      does = c.run.ensures;
     }))

@@ -6,19 +6,17 @@ use Rattle.aes.proofs.cipher.cipher.Goals as goal
 
 pub loop-round-init : goal.loop-round-init
 unfolding state_after
-loop-round-init c = c.add_round_key-state.ensures ∙ ap (add_round_key c.args.round_keys.now 0) c.columns_of.ensures
+loop-round-init c = c.first_round-state.ensures
 
 pub loop-round-preserved : goal.loop-round-preserved
 loop-round-preserved c =
-    c.add_round_key-state-in-loop-round.ensures
-    ∙ ap (add_round_key c.args.round_keys.now c.loop-round.round)
-    (c.sub_shift_mix.ensures ∙ ap (λ s. mix_columns (shift_rows (sub_bytes s))) c.loop-round.invariant)
+    c.next_round-state.ensures
+    ∙ ap (λ s. add_round_key c.args.round_keys.now c.loop-round.round (mix_columns (shift_rows (sub_bytes s)))) c.loop-round.invariant
     ∙ state_after-more c.args.round_keys.now c.args.b.now c.loop-round.round (omega arith)
 
 pub returns : goal.returns
 unfolding cipher
 returns c =
-    c.block_of.ensures
-    ∙ c.last_round.ensures
+    c.last_round.ensures
     ∙ ap (λ s. add_round_key c.args.round_keys.now c.args.nr (shift_rows (sub_bytes s)))
     (c.loop-round.invariant ∙ ap (λ m. state_after c.args.round_keys.now c.args.b.now (m - 1)) (let e : c.loop-round.round ≡ c.args.nr = omega arith in e))

@@ -1,16 +1,27 @@
-use Rattle.std.proofs.Common.{◌∙◌, arith}
-use Rattle.aes.specs.InverseCipher.{inverse_sub_bytes, inverse_shift_rows}
-use Rattle.aes.specs.Code.Words.{block_of}
-use Rattle.aes.proofs.Squares.{length-square}
-use Rattle.aes.proofs.Columns.{columns_are, inverse_shift_sub_column, back_from_column, back_around}
+use Rattle.std.proofs.Common.{◌≡◌, ◌+◌, ◌-◌, ◌%◌, ◌<◌, length, sym, ap, ◌∙◌, arith}
+use Rattle.std.proofs.lemmas.List.{length-map}
+use Rattle.aes.specs.declared.tables.TheConstants.{RECIPROCAL}
+use Rattle.aes.specs.SBox.{s_box_sum}
+use Rattle.aes.specs.State.{at}
+use Rattle.aes.specs.InverseCipher.{inverse_s_box, inverse_shift_rows}
+use Rattle.aes.specs.Code.LookUps.{from_inverse}
+use Rattle.aes.specs.Code.Kept.{plain_octet, summed}
+use Rattle.aes.proofs.Squares.{at-square, same_square, length-square}
+use Rattle.aes.proofs.Vectors.{at_map, at_fits}
+use Rattle.aes.proofs.KeptOctets.{inverse_of_summed}
 use Rattle.aes.proofs.inverse_state.inverse_shift_sub.Goals as goal
 
 pub returns : goal.returns
 returns c =
-    let s = c.args.state in
-    columns_are c.unsubstitute_column.result c.unsubstitute_column-2.result c.unsubstitute_column-3.result c.unsubstitute_column-4.result
-    (inverse_sub_bytes (inverse_shift_rows (block_of s))) (length-square _)
-    (λ r h. c.unsubstitute_column.ensures r h ∙ inverse_shift_sub_column s (back_from_column 0 s) 0 (omega arith) (back_around s 0) r h)
-    (λ r h. c.unsubstitute_column-2.ensures r h ∙ inverse_shift_sub_column s (back_from_column 1 s) 1 (omega arith) (back_around s 1) r h)
-    (λ r h. c.unsubstitute_column-3.ensures r h ∙ inverse_shift_sub_column s (back_from_column 2 s) 2 (omega arith) (back_around s 2) r h)
-    (λ r h. c.unsubstitute_column-4.ensures r h ∙ inverse_shift_sub_column s (back_from_column 3 s) 3 (omega arith) (back_around s 3) r h)
+    let x = c.args.x in
+    let s = c.shifted_back.result in
+    let v = c.from_inverse.result in
+    let f = from_inverse RECIPROCAL in
+    let long : length s ≡ 16 = ap length c.shifted_back.ensures ∙ length-square _ in
+    sym (same_square (λ r l. inverse_s_box (at (inverse_shift_rows (summed x)) r l)) v (ap length c.from_inverse.ensures ∙ length-map s f ∙ long) (λ r l hr hl.
+    let from : (l + 4 - r) % 4 < 4 = omega arith in
+    ap inverse_s_box (at-square (λ r l. at (summed x) r ((l + 4 - r) % 4)) r l hr hl
+    ∙ at-square (λ r l. s_box_sum (plain_octet (at x r l))) r ((l + 4 - r) % 4) hr from)
+    ∙ inverse_of_summed (at x r ((l + 4 - r) % 4)) (at_fits x r ((l + 4 - r) % 4) c.fits-x.1)
+    ∙ sym (at_map f s v r l long hr hl c.from_inverse.ensures
+    ∙ ap f (ap (λ l'. at l' r l) c.shifted_back.ensures ∙ at-square (λ r l. at x r ((l + 4 - r) % 4)) r l hr hl))))

@@ -1,5 +1,4 @@
 use Rattle.std.proofs.Common.{rules, ◌≡◌, ◌≢◌, ℕ, ◌+◌, ◌-◌, ◌*◌, ◌/◌, List, ◌++◌, length, take, drop, sym, ap, ap₂, ◌∙◌, subst, arith, take-append-drop, length-take, length-drop}
-use Rattle.std.specs.Cmp.Lexicographic.{same_text, other_text}
 use Rattle.std.proofs.lemmas.List.{take_all}
 use Rattle.ciphers.specs.KeyWrap.{initial_value, IsKeyData, IsUnwrapping}
 use Rattle.ciphers.specs.Code.Views.{IsRow}
@@ -17,8 +16,8 @@ module _ (w a r : List ℕ) (front : a ≡ take 8 w) (back : r ≡ take (length 
 rest : (n : ℕ) (w : List ℕ) → length w ≡ n + 8 → length (take (length w - 8) (drop 8 w)) ≡ n
 rest n w h = length-take (length w - 8) (drop 8 w) ∙ omega (arith, h, length-drop 8 w)
 
-pub returns-then-ne-clause-nothing : goal.returns-then-ne-clause-nothing
-returns-then-ne-clause-nothing g c p u =
+pub returns-then-not-is_initial-clause-nothing : goal.returns-then-not-is_initial-clause-nothing
+returns-then-not-is_initial-clause-nothing g c p u =
     let e = g.B.Block.encrypted c.args.kek.now in
     let d = g.B.Block.decrypted c.args.kek.now in
     let law = g.met.B.Block.is_cipher c.args.kek.now in
@@ -29,7 +28,7 @@ returns-then-ne-clause-nothing g c p u =
     ∙ rest (length p) c.args.wrapped.now (unwrapping_long e d law c.args.wrapped.now p u) in
     let last = last_row e d law p a r c.copy_from_slice.ensures.len (subst (λ x. IsUnwrapping e x p) (sym whole) u) long in
     let first = c.unwrap_registers.ensures.back p u.key_data.octets (subst (λ n. IsRow e p (6 * (n / 8)) a r) (sym long) last) in
-    let other : c.unwrap_registers.new.a ≢ initial_value = other_text _ _ (search rules) in
+    let other : c.unwrap_registers.new.a ≢ initial_value = search (rules, c.is_initial.ensures) in
     other (first_row_check e p c.unwrap_registers.new.a c.unwrap_registers.new.r first)
 
 pub returns-clause-unwraps : goal.returns-clause-unwraps
@@ -39,7 +38,7 @@ returns-clause-unwraps g c =
     let a = c.copy_from_slice.new.self in
     let r = c.copy_from_slice-2.new.self in
     let whole = text c.args.wrapped.now a r c.copy_from_slice.ensures.after c.copy_from_slice-2.ensures.after in
-    let same : c.unwrap_registers.new.a ≡ initial_value = same_text _ _ (search rules) in
+    let same : c.unwrap_registers.new.a ≡ initial_value = search (rules, c.is_initial.ensures) in
     let first = subst (λ x. IsRow e p 0 x c.unwrap_registers.new.r) (sym same)
     (subst (λ x. IsRow e p 0 initial_value x) c.copy_from_slice-3.ensures.after (first_row e p)) in
     let last = c.unwrap_registers.ensures.forth p first in
