@@ -220,7 +220,7 @@ PLACES = [
      "(KeyManagement::GcmKeyWrap { .. }, _) => false, } }", "the parameters of two recipients"),
     ("tokens/src/decrypt/tried.rt", "was_tried", "fn was_tried(keys: &[Key], algorithms: Algorithms, key: &Key) -> bool { keys.iter().any(|earlier| { same_octets(earlier.octets(), "
      "key.octets()) && is_candidate(algorithms, earlier) }) }", "two keys"),
-    ("tokens/src/decrypt/salted.rt", "SaltedKeys::salt", "fn salt(&mut self, p2s: &'x [u8]) { if same_octets(self.p2s, p2s) { return; } self.p2s = p2s; salt_each(&mut self.keys, p2s); }", "two salts"),
+    ("tokens/src/decrypt/salted.rt", "SaltedKeys::salt", "fn salt(&mut self, p2s: &'x [u8]) { if same_octets(self.p2s, p2s) { return; } self.p2s = p2s; salt_each(&mut self.salted, p2s); }", "two salts"),
     ("tokens/src/verify/heads.rt", "is_alike", "fn is_alike(head: &Signature, signature: &Signature) -> bool { same_octets(head.alg().as_bytes(), signature.alg().as_bytes()) && "
      "same_octets(head.protected().as_bytes(), signature.protected().as_bytes(),) }", "the algorithms and the protected headers of two signatures"),
     ("tokens/src/verify/signers.rt", "is_among", "fn is_among(block: &KeyBlock, others: &[KeyBlock]) -> bool { others.iter().any(|other| same_octets(block.octets(), other.octets())) }", "two keys, as HMAC uses them"),

@@ -1,6 +1,6 @@
 //! AES-CBC with HMAC (RFC 7518 section 5.2), over any block cipher and hash function.
-ghost use Rattle.std.specs.Prelude.{◌≡◌, ℕ, ◌≤◌, List, [], ◌++◌, length, take, drop, IfSome, IfNone};
-ghost use Rattle.ciphers.specs.Sealing.{Sealing, cbc_hmac, Opens};
+ghost use Rattle.std.specs.Prelude.{◌≡◌, ℕ, ◌≤◌, List, [], length, take, IfSome, IfNone};
+ghost use Rattle.ciphers.specs.Sealing.{cbc_hmac, Opens};
 ghost use Rattle.ciphers.specs.Code.Views.{IsPaddingBehind};
 
 use crate::arrays::array;

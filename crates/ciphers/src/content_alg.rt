@@ -1,5 +1,6 @@
 //! The content encryption algorithms (RFC 7518 section 5.1).
-ghost use Rattle.std.specs.Prelude.{◌≡◌, ◌≤◌, ℕ, List, [], length, take, IfSome, IfNone};
+ghost use Rattle.std.specs.Prelude.{◌≡◌, ◌≤◌, ℕ, List, [], length, take, Some, IfSome, IfNone};
+ghost use Rattle.ciphers.specs.Algorithms.{encryption_name, encryption_alg_of};
 ghost use Rattle.ciphers.specs.Sealing.{cek_len, iv_len, sealing, Opens, IsOpening};
 ghost use Rattle.ciphers.specs.Code.Views.{IsPaddingBehind};
 
@@ -11,7 +12,7 @@ use modes::Gcm;
 use octets::{Refusal, SEALED_PIECE};
 use prf::{Hash, Sha256, Sha384, Sha512};
 
-/// A content encryption algorithm.
+/// A content encryption algorithm: a value of `enc` (RFC 7518 section 5.1).
 #[derive(Clone, Copy, Debug, PartialEq, Eq)]
 pub enum ContentAlg {
     /// AES-128 in CBC with HMAC SHA-256: `A128CBC-HS256`.
@@ -29,9 +30,42 @@ pub enum ContentAlg {
 }
 
 impl ContentAlg {
-    /// The length of its keys in octets.
+    /// The algorithm of this name.
+    #[tactic(auto, unfolding(crate::specs::Algorithms::encryption_alg_of))]
+    pub fn named(name: &str) -> Option<ContentAlg>
+        ensures { result ≡ encryption_alg_of name.now }
+    {
+        match name {
+            "A128CBC-HS256" => Some(ContentAlg::A128CbcHs256),
+            "A192CBC-HS384" => Some(ContentAlg::A192CbcHs384),
+            "A256CBC-HS512" => Some(ContentAlg::A256CbcHs512),
+            "A128GCM" => Some(ContentAlg::A128Gcm),
+            "A192GCM" => Some(ContentAlg::A192Gcm),
+            "A256GCM" => Some(ContentAlg::A256Gcm),
+            _ => None,
+        }
+    }
+
+    /// Its name.
+    #[tactic(auto, unfolding(crate::specs::Algorithms::encryption_alg_of))]
+    pub fn name(self) -> &'static str
+        ensures name { result.now ≡ encryption_name self }
+        ensures found { encryption_alg_of result.now ≡ Some self }
+    {
+        match self {
+            ContentAlg::A128CbcHs256 => "A128CBC-HS256",
+            ContentAlg::A192CbcHs384 => "A192CBC-HS384",
+            ContentAlg::A256CbcHs512 => "A256CBC-HS512",
+            ContentAlg::A128Gcm => "A128GCM",
+            ContentAlg::A192Gcm => "A192GCM",
+            ContentAlg::A256Gcm => "A256GCM",
+        }
+    }
+
+    /// The length of its content encryption key in octets (sections 5.2 and 5.3).
     pub fn cek_len(self) -> usize
-        ensures { result ≡ cek_len self }
+        ensures len { result ≡ cek_len self }
+        ensures most { result ≤ 64 }
     {
         match self {
             ContentAlg::A128CbcHs256 => 32,

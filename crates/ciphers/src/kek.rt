@@ -1,5 +1,5 @@
 //! AES under a key encryption key of any length, and the ways to deliver a content encryption key.
-ghost use Rattle.std.specs.Prelude.{◌≡◌, ℕ, List, length};
+ghost use Rattle.std.specs.Prelude.{◌≡◌, length};
 ghost use Rattle.aes.specs.Cipher.{encrypted_block};
 
 use crate::arrays::array;

@@ -1,5 +1,6 @@
 //! The algorithms of key management (RFC 7518 sections 4.4, 4.5, 4.7 and 4.8).
-ghost use Rattle.std.specs.Prelude.{◌≡◌, ℕ, ◌%◌, ◌≤◌, List, [], length, take, drop, IfSome, IfNone};
+ghost use Rattle.std.specs.Prelude.{◌≡◌, ℕ, ◌%◌, ◌≤◌, List, [], length, take, drop, Some, IfSome, IfNone};
+ghost use Rattle.ciphers.specs.Algorithms.{management_name, management_alg_of, mode_of, kek_len, is_password_based};
 ghost use Rattle.ciphers.specs.Delivery.{way_of, encrypted_key_of, key_tag_of, IsDelivered};
 ghost use Rattle.ciphers.specs.Code.Demands.{IsKeyOf, IsCountOf, IsIvOf, IsSaltOf, iteration_count};
 ghost use Rattle.ciphers.specs.KeyWrap.{IsUnwrapping};
@@ -18,7 +19,7 @@ use aes::Block;
 use modes::{Gcm, gcm_open};
 use octets::SEALED_PIECE;
 
-/// An algorithm of key management: how a recipient's key delivers a content encryption key.
+/// An algorithm of key management: how a recipient's key delivers a content encryption key. It is a value of `alg` (RFC 7518 section 4.1).
 #[derive(Clone, Copy, Debug, PartialEq, Eq)]
 pub enum KeyAlg {
     /// The key is the content encryption key: `dir`.
@@ -43,6 +44,19 @@ pub enum KeyAlg {
     Pbes2Hs512A256Kw,
 }
 
+/// How a key delivers the content encryption key (RFC 7518 section 4).
+#[derive(Clone, Copy, Debug, PartialEq, Eq)]
+pub enum KeyManagementMode {
+    /// It is that key (section 4.5).
+    Direct,
+    /// It wraps it by AES key wrap (section 4.4).
+    KeyWrap,
+    /// It is a password, from which the key of an AES key wrap is derived (section 4.8).
+    Password,
+    /// It wraps it by AES in GCM (section 4.7).
+    GcmKeyWrap,
+}
+
 /// The header parameters of a recipient that its algorithm reads: the initialization vector and the tag of an encryption in GCM
 /// (section 4.7.1), or the salt input p2s and the count p2c of a password (section 4.8.1). Those that it does not read may be anything. So
 /// may the tag when a key is wrapped.
@@ -55,6 +69,85 @@ pub struct KeyParameters<'p> {
 }
 
 impl KeyAlg {
+    /// The algorithm of this name.
+    #[tactic(auto, unfolding(crate::specs::Algorithms::management_alg_among))]
+    pub fn named(name: &str) -> Option<KeyAlg>
+        ensures { result ≡ management_alg_of name.now }
+    {
+        match name {
+            "dir" => Some(KeyAlg::Dir),
+            "A128KW" => Some(KeyAlg::A128Kw),
+            "A192KW" => Some(KeyAlg::A192Kw),
+            "A256KW" => Some(KeyAlg::A256Kw),
+            "PBES2-HS256+A128KW" => Some(KeyAlg::Pbes2Hs256A128Kw),
+            "PBES2-HS384+A192KW" => Some(KeyAlg::Pbes2Hs384A192Kw),
+            "PBES2-HS512+A256KW" => Some(KeyAlg::Pbes2Hs512A256Kw),
+            "A128GCMKW" => Some(KeyAlg::A128GcmKw),
+            "A192GCMKW" => Some(KeyAlg::A192GcmKw),
+            "A256GCMKW" => Some(KeyAlg::A256GcmKw),
+            _ => None,
+        }
+    }
+
+    /// Its name.
+    #[tactic(auto, unfolding(crate::specs::Algorithms::management_alg_among))]
+    pub fn name(self) -> &'static str
+        ensures name { result.now ≡ management_name self }
+        ensures found { management_alg_of result.now ≡ Some self }
+    {
+        match self {
+            KeyAlg::Dir => "dir",
+            KeyAlg::A128Kw => "A128KW",
+            KeyAlg::A192Kw => "A192KW",
+            KeyAlg::A256Kw => "A256KW",
+            KeyAlg::Pbes2Hs256A128Kw => "PBES2-HS256+A128KW",
+            KeyAlg::Pbes2Hs384A192Kw => "PBES2-HS384+A192KW",
+            KeyAlg::Pbes2Hs512A256Kw => "PBES2-HS512+A256KW",
+            KeyAlg::A128GcmKw => "A128GCMKW",
+            KeyAlg::A192GcmKw => "A192GCMKW",
+            KeyAlg::A256GcmKw => "A256GCMKW",
+        }
+    }
+
+    /// How its key delivers the content encryption key.
+    pub fn mode(self) -> KeyManagementMode
+        ensures { result ≡ mode_of self }
+    {
+        match self {
+            KeyAlg::Dir => KeyManagementMode::Direct,
+            KeyAlg::A128Kw | KeyAlg::A192Kw | KeyAlg::A256Kw => { KeyManagementMode::KeyWrap }
+            KeyAlg::Pbes2Hs256A128Kw | KeyAlg::Pbes2Hs384A192Kw | KeyAlg::Pbes2Hs512A256Kw =>
+                KeyManagementMode::Password,
+            KeyAlg::A128GcmKw | KeyAlg::A192GcmKw | KeyAlg::A256GcmKw =>
+                KeyManagementMode::GcmKeyWrap,
+        }
+    }
+
+    /// The octets of the key of the wrap: 16, 24 or 32, and 0 where there is none.
+    pub fn kek_len(self) -> usize
+        ensures len { result ≡ kek_len self }
+        ensures most { result ≤ 32 }
+    {
+        match self {
+            KeyAlg::Dir => 0,
+            KeyAlg::A128Kw | KeyAlg::Pbes2Hs256A128Kw | KeyAlg::A128GcmKw => 16,
+            KeyAlg::A192Kw | KeyAlg::Pbes2Hs384A192Kw | KeyAlg::A192GcmKw => 24,
+            KeyAlg::A256Kw | KeyAlg::Pbes2Hs512A256Kw | KeyAlg::A256GcmKw => 32,
+        }
+    }
+
+    /// Its key is a password, from which the key of the wrap is derived (RFC 7518 section 4.8).
+    pub fn is_password_based(self) -> bool
+        ensures { result ≡ is_password_based self }
+    {
+        match self.mode() {
+            KeyManagementMode::Password => true,
+            KeyManagementMode::Direct
+            | KeyManagementMode::KeyWrap
+            | KeyManagementMode::GcmKeyWrap => false,
+        }
+    }
+
     /// Encrypts the content encryption key, of 16 to 64 octets in parts of 8, to the front of `encrypted_key`. The first result is the
     /// length of the encrypted key: 0 for `Dir`, where `cek` must be the key itself; the length of `cek` in GCM; otherwise 8 octets more.
     /// The second result is the length of the tag at the front of `tag`: 16 in GCM, otherwise 0.

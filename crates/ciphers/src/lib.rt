@@ -36,7 +36,7 @@ mod sealer;
 
 pub use cek::Cek;
 pub use content_alg::{ContentAlg, ContentSealer};
-pub use key_alg::{KeyAlg, KeyParameters};
+pub use key_alg::{KeyAlg, KeyManagementMode, KeyParameters};
 pub use key_wrap::{unwrap, wrap};
 pub use salted_key::SaltedKey;
 pub use sealer::Sealer;
@@ -49,6 +49,8 @@ mod key_alg_tests;
 mod key_wrap_tests;
 #[cfg(test)]
 mod long_tests;
+#[cfg(test)]
+mod name_tests;
 #[cfg(test)]
 mod salted_key_tests;
 #[cfg(test)]

@@ -1,5 +1,5 @@
 //! A recipient's key with a salt input, and the keys that PBES2 derives from it (RFC 7518 section 4.8.1).
-ghost use Rattle.std.specs.Prelude.{◌≡◌, ℕ, ◌*◌, ◌≤◌, List, [], ◌∷◌, ◌++◌, IfSome, codes, length};
+ghost use Rattle.std.specs.Prelude.{◌≡◌, ℕ, ◌*◌, ◌≤◌, List, ◌∷◌, ◌++◌, IfSome, codes, length};
 ghost use Rattle.ciphers.specs.Delivery.{derived_key};
 ghost use Rattle.octets.specs.Octets.{IsOctets};
 ghost use Rattle.prf.specs.Pbkdf2.{block_count, iterate};

@@ -1,7 +1,6 @@
 //! An output file is opened without being cut. What is open is compared with the files that it must not be, whatever their names. Only then
 //! it is cut.
 ghost use Rattle.std.specs.Prelude.{◌≡◌, false, true, option_map};
-ghost use Rattle.std.specs.IoError.{error_kind};
 ghost use Rattle.jose.specs.System.{place_view, places, request_of, is_same_file, is_absence, may_be, MayBeOne, IsApart, IsNotApart, IsCreated};
 
 use crate::system::{FileId, OutputName, Place, Status, WriteFiles};

@@ -1,9 +1,8 @@
 //! The work of each command, from devices to devices.
-ghost use Rattle.std.specs.Prelude.{◌≡◌, true, false, ◌⊎◌, ◌++◌, ℕ, List, [], ◌∷◌, option_map, Err, OnOk, OnErr, IfOk, IfErr, IsTrue};
+ghost use Rattle.std.specs.Prelude.{◌≡◌, true, false, ℕ, List, [], ◌∷◌, option_map, Err, OnOk, OnErr, IfOk, IfErr, IsTrue};
 ghost use Rattle.std.specs.Iterator.{IsFinite};
-ghost use Rattle.octets.specs.Devices.{appended, observed, IsPossibleInput, AppendsPrefixOf, IsFinishedOnce, input_members, output_members};
-ghost use Rattle.octets.specs.Faults.{TellsFaults, DidNotFail, counts};
-ghost use Rattle.octets.specs.Outcomes.{AgreesUnlessExternal};
+ghost use Rattle.octets.specs.Devices.{observed, IsPossibleInput, input_members, output_members};
+ghost use Rattle.octets.specs.Faults.{TellsFaults, counts};
 ghost use Rattle.octets.specs.Code.Results.{IsReadingFailure};
 ghost use Rattle.objects.specs.Texts.{handed_in};
 ghost use Rattle.objects.specs.Code.Views.{held_view};

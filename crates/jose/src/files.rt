@@ -2,7 +2,7 @@
 //! opened and cut just before its first octet is written, or when it is finished without one. A file that is created for a secret is its
 //! owner's alone. An output is not cut if it is the file of the content that is read meanwhile, of the keys, or of the output that is
 //! written before it.
-ghost use Rattle.std.specs.Prelude.{◌≡◌, ℕ, ◌<◌, ◌++◌, ◌⊎◌, false, true, List, length, map, take, drop, min, option_map, OnOk, IfOk, IfErr, Ok, Err};
+ghost use Rattle.std.specs.Prelude.{◌≡◌, ℕ, ◌<◌, ◌++◌, false, List, length, take, drop, min, option_map, OnOk, IfErr, Ok, Err};
 ghost use Rattle.std.specs.Result.{result_unwrap_or};
 ghost use Rattle.std.specs.Io.{ReadsAtMost, WritesAtMost};
 ghost use Rattle.std.specs.Io.KnownBytes.{Keeps, ReadConsumes, WriteAppends};

@@ -1,8 +1,8 @@
 -- The limits of this profile, and its algorithms. They are an argument of the definitions that test them, so that a law can compare two
 -- versions.
 use Rattle.std.specs.Prelude.{ℕ, Bool, nat_le, List}
-use Rattle.keys.specs.declared.algorithm.KeyManagementAlg.{KeyManagementAlg}
-use Rattle.keys.specs.Algorithms.{management_algs}
+use Rattle.ciphers.specs.declared.key_alg.KeyAlg.{KeyAlg}
+use Rattle.ciphers.specs.Algorithms.{management_algs}
 
 -- the numbers of docs/SPECIFICATION.md "Keys" 1 and 2, "Making keys" 1 and 4, "Objects" 2, "Signing" 4, "Decrypting" 2, and "Encrypting" 5
 -- and 7
@@ -23,7 +23,7 @@ pub record Limits : Type 0 where
   -- tried
   pub p2c_sum : ℕ
   -- the algorithms of key management
-  pub management : List KeyManagementAlg
+  pub management : List KeyAlg
 
 -- the limits of this profile (docs/SPECIFICATION.md "Keys" to "Encrypting")
 abbrev pub limits : Limits

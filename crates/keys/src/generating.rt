@@ -1,7 +1,7 @@
 //! Making keys from a template and a random input (RFC 7517 section 4, and this profile's own rules).
-ghost use Rattle.std.specs.Prelude.{◌≡◌, ◌≤◌, ℕ, List, [], ◌∷◌, false, length, map, nat_le, IfErr, IfOk, OnOk, Ok, Err, Some, is_some, string_bytes};
+ghost use Rattle.std.specs.Prelude.{◌≡◌, ◌≤◌, ℕ, List, [], ◌∷◌, false, length, map, IfErr, IfOk, OnOk, Ok, Err, Some, is_some, string_bytes};
 ghost use Rattle.std.specs.Option.{ok_or};
-ghost use Rattle.serde_json.specs.Data.{object, depth};
+ghost use Rattle.serde_json.specs.Data.{object};
 ghost use Rattle.serde_json.specs.Find.{get_member, as_object};
 ghost use Rattle.serde_json.specs.View.{view, items_view, members_view};
 ghost use Rattle.serde_json.specs.Written.{members_have_float};

@@ -1,14 +1,18 @@
 //! Laws of the definitions, as contracts of functions that do nothing.
+ghost use Rattle.std.specs.Prelude.{◌≤◌, length};
 ghost use Rattle.keys.specs.Json.{KeepFloatsOut};
 ghost use Rattle.keys.specs.JsonTexts.{CompactTextReadsBack, DeepTextsAreRefused, KeepJson, ReadsJson, UrlTextsAreJson};
 ghost use Rattle.keys.specs.Keys.{AreOctetKeys};
 ghost use Rattle.keys.specs.KeySets.{KeysHaveOctets};
+ghost use Rattle.keys.specs.Limits.{limits};
 
 use crate::set::KeySet;
 
-/// The keys of a set have octets.
+/// A set has at least one key and at most `MOST_KEYS`, and its keys have octets.
 pub fn are_octet_keys(keys: &KeySet)
-    ensures { AreOctetKeys keys.now }
+    ensures octets { AreOctetKeys keys.now }
+    ensures some { 1 ≤ length keys.now }
+    ensures few { length keys.now ≤ limits.keys }
 {
     keys.keys();
 }

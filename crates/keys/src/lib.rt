@@ -24,9 +24,7 @@ mod strict_json;
 mod texts;
 mod thumbprints;
 
-pub use algorithm::{
-    Algorithm, ContentEncryptionAlg, KeyManagementAlg, KeyManagementMode, SignatureAlg,
-};
+pub use algorithm::{Algorithm, SignatureAlg};
 pub use generating::generate;
 pub use key::Key;
 pub use limits::{

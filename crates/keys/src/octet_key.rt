@@ -12,11 +12,12 @@ ghost use Rattle.keys.specs.Operations.{operation_names};
 ghost use Rattle.keys.specs.Texts.{is_among};
 ghost use Rattle.keys.specs.Code.Views.{key_view};
 
-use crate::algorithm::{Algorithm, KeyManagementMode};
+use crate::algorithm::Algorithm;
 use crate::key::Key;
 use crate::limits::MOST_KEY_OCTETS;
 use crate::members::{optional_string_member, optional_strings_member, string_member};
 use crate::operation::Operation;
+use ciphers::KeyManagementMode;
 use octets::laws::are_octets;
 use octets::{Refusal, b64_decode, needs};
 use serde_json::Value;

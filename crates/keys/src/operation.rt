@@ -1,9 +1,11 @@
 //! The operations that a key may be used for (RFC 7517 section 4.3).
 ghost use Rattle.std.specs.Prelude.{◌≡◌, map};
 ghost use Rattle.keys.specs.Operations.{operation_name, derivation_names, operation_names, operation_use};
+ghost use Rattle.keys.specs.Algorithms.{management_operations};
 ghost use Rattle.keys.specs.Texts.{is_among};
 
 use crate::texts::is_among;
+use ciphers::{KeyAlg, KeyManagementMode};
 
 /// What a key may be used for (RFC 7517 section 4.3).
 #[derive(Clone, Copy, Debug, PartialEq, Eq)]
@@ -25,6 +27,21 @@ pub enum Operation {
 }
 
 impl Operation {
+    /// What a sender and a recipient do with a key for this algorithm.
+    pub fn of_management(alg: KeyAlg) -> (Operation, Operation)
+        ensures { result ≡ management_operations alg }
+    {
+        match alg.mode() {
+            KeyManagementMode::Direct => (Operation::Encrypt, Operation::Decrypt),
+            KeyManagementMode::KeyWrap | KeyManagementMode::GcmKeyWrap => {
+                (Operation::WrapKey, Operation::UnwrapKey)
+            }
+            KeyManagementMode::Password => {
+                (Operation::WrapByPassword, Operation::UnwrapByPassword)
+            }
+        }
+    }
+
     /// Its name in `key_ops`.
     pub(crate) fn name(self) -> &'static str
         ensures { result.now ≡ operation_name self }

@@ -53,6 +53,7 @@ impl KeySet {
     #[tactic(auto, using(crate::proofs::KeyLists::have_octets))]
     pub fn keys(&self) -> &[Key]
         ensures list { map key_view result.now ≡ self.now }
+        ensures some { 1 ≤ length result.now }
         ensures few { length result.now ≤ limits.keys }
         ensures octets { AreOctetKeys self.now }
     {

@@ -12,12 +12,16 @@ use serde_json::{Map, Value};
 use std::alloc::Global;
 
 /// The value of a JSON text (RFC 8259). Refuses with `Json` if the octets are no JSON in UTF-8, or nest deeper than 127. Then refuses with
-/// `Number` if a number is not whole or not of 64 bits, with or without a sign: `1.0` and `-0` are refused. May fail with `Memory`.
+/// `Number` if a number is not whole or not of 64 bits, with or without a sign: `1.0` and `-0` are refused. May fail with `Memory`. The text
+/// `{}`, which many templates are, needs no reading.
 #[tactic(auto, unfolding(crate::specs::Json::json_value))]
 pub fn read_json(alloc: Global, octets: &[u8]) -> Result<Value, Refusal>
     ensures exact { AgreesUnlessMemory view result (json_value octets.now) }
     ensures no_float { IfOk result (λ value. has_float (view value) ≡ false) }
 {
+    if octets == b"{}".as_slice() {
+        return Ok(Value::Object(Map::new(alloc)));
+    }
     let value = read_value(alloc, octets)?;
     needs(has_whole_numbers(&value), Refusal::Number)?;
     Ok(value)

@@ -65,27 +65,33 @@ pub(crate) fn thumbprint_lines(alloc: Global, keys: &[u8], bits: u32) -> Result<
     Ok(text_thumbprints(alloc, keys, hash)?.into_bytes())
 }
 
+/// How an object is written: in compact form or as JSON, and with its content or without it.
+#[derive(Clone, Copy)]
+pub(crate) struct Form {
+    pub(crate) compact: bool,
+    pub(crate) detach: bool,
+}
+
 #[tactic(auto, using(crate::proofs::Lemmas::contents_possible))]
 pub(crate) fn signed_text(
     alloc: Global,
     keys: &[u8],
     template: &[u8],
-    compact: bool,
-    detach: bool,
+    form: Form,
     payload: &[u8],
 ) -> Result<Vec<u8>, Refusal>
-    ensures { GivesUnlessExternal (λ text. text.items) result (sign_answer compact detach keys.now template.now payload.now) }
+    ensures { GivesUnlessExternal (λ text. text.items) result (sign_answer form.compact form.detach keys.now template.now payload.now) }
 {
     let set = KeySet::read(alloc, keys, true)?;
     let mut payload = MemoryInput::new(payload, usize::MAX);
     let mut text = GrowingOutput::new(alloc);
-    if detach {
+    if form.detach {
         let mut left_out = GrowingOutput::new(alloc);
         jws_sign(
             alloc,
             &set,
             template,
-            compact,
+            form.compact,
             &mut payload,
             &mut text,
             Some(&mut left_out),
@@ -95,7 +101,7 @@ pub(crate) fn signed_text(
             alloc,
             &set,
             template,
-            compact,
+            form.compact,
             &mut payload,
             &mut text,
             Option::default(),
@@ -209,24 +215,23 @@ pub(crate) fn encrypted_texts<'x>(
     alloc: Global,
     keys: &[u8],
     template: &[u8],
-    compact: bool,
-    detach: bool,
+    form: Form,
     random: &'x [u8],
     plaintext: &'x [u8],
 ) -> Result<Both, Refusal>
-    ensures { GivesUnlessExternal both result (encrypt_answer compact detach keys.now template.now random.now plaintext.now) }
+    ensures { GivesUnlessExternal both result (encrypt_answer form.compact form.detach keys.now template.now random.now plaintext.now) }
 {
     let set = KeySet::read(alloc, keys, true)?;
     let mut random = MemoryInput::new(random, usize::MAX);
     let mut plaintext = MemoryInput::new(plaintext, usize::MAX);
     let mut text = GrowingOutput::new(alloc);
     let mut content = GrowingOutput::new(alloc);
-    if detach {
+    if form.detach {
         jwe_encrypt(
             alloc,
             &set,
             template,
-            compact,
+            form.compact,
             &mut random,
             &mut plaintext,
             &mut text,
@@ -237,7 +242,7 @@ pub(crate) fn encrypted_texts<'x>(
             alloc,
             &set,
             template,
-            compact,
+            form.compact,
             &mut random,
             &mut plaintext,
             &mut text,

@@ -19,7 +19,7 @@ mod growing;
 mod places;
 
 use crate::answers::{
-    encrypted_form, encrypted_texts, key_text, payload_of, payload_of_all, plaintext_of,
+    Form, encrypted_form, encrypted_texts, key_text, payload_of, payload_of_all, plaintext_of,
     signed_form, signed_text, thumbprint_lines, verify_all_with_payload, verify_with_payload,
 };
 use crate::places::{deliver, deliver_both, told};
@@ -70,7 +70,7 @@ pub extern "C" fn lakhdzeva_core_sign(
         (record { old = object.old; new = object.new; count = count.new }) result }
 {
     deliver(
-        signed_text(alloc, keys, template, compact, detach, payload),
+        signed_text(alloc, keys, template, Form { compact, detach }, payload),
         object,
         count,
     )
@@ -185,7 +185,14 @@ pub extern "C" fn lakhdzeva_core_encrypt<'x>(
         (record { old = ciphertext.old; new = ciphertext.new; count = ciphertext_count.new }) result }
 {
     deliver_both(
-        encrypted_texts(alloc, keys, template, compact, detach, random, plaintext),
+        encrypted_texts(
+            alloc,
+            keys,
+            template,
+            Form { compact, detach },
+            random,
+            plaintext,
+        ),
         object,
         object_count,
         ciphertext,

@@ -1,5 +1,5 @@
 //! GHASH of a text that comes in pieces (SP 800-38D sections 6.3 and 6.4).
-ghost use Rattle.std.specs.Prelude.{◌≡◌, ℕ, ◌+◌, ◌*◌, ◌%◌, ◌<◌, ◌≤◌, List, [], ◌∷◌, ◌++◌, length, take};
+ghost use Rattle.std.specs.Prelude.{◌≡◌, ℕ, ◌+◌, ◌*◌, ◌%◌, ◌<◌, ◌≤◌, List, [], ◌∷◌, ◌++◌, length};
 ghost use Rattle.std.specs.Int.{w128, from_be_bytes};
 ghost use Rattle.modes.specs.Cbc.{block};
 ghost use Rattle.modes.specs.Ghash.{ghash_number, numbers, zero_filled, ghash};

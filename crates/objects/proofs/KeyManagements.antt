@@ -7,10 +7,10 @@ use Rattle.octets.specs.declared.refusal.Refusal.{Refusal}
 use Rattle.octets.specs.declared.refusal.Refusal.TheVariants.{Header}
 use Rattle.octets.specs.Base64url.{decoded}
 use Rattle.octets.specs.Outcomes.{needs, as_refusal, if_there}
-use Rattle.keys.specs.declared.algorithm.KeyManagementAlg.{KeyManagementAlg}
-use Rattle.keys.specs.declared.algorithm.KeyManagementMode.{KeyManagementMode}
-use Rattle.keys.specs.declared.algorithm.KeyManagementMode.TheVariants as mode
-use Rattle.keys.specs.Algorithms.{mode_of}
+use Rattle.ciphers.specs.declared.key_alg.KeyAlg.{KeyAlg}
+use Rattle.ciphers.specs.declared.key_alg.KeyManagementMode.{KeyManagementMode}
+use Rattle.ciphers.specs.declared.key_alg.KeyManagementMode.TheVariants as mode
+use Rattle.ciphers.specs.Algorithms.{mode_of}
 use Rattle.objects.specs.Headers.{string_parameter, number_parameter, salt_octets, salt_parameter, octets_parameter}
 use Rattle.objects.specs.KeyManagement.{KeyManagement, Unknown, Direct, KeyWrap, Password, GcmKeyWrap, password_management, gcm_management, management_in, management_by}
 use Rattle.objects.specs.Code.KeyManagementView.{are_password_parameters, is_management_in, is_management_of}
@@ -64,6 +64,6 @@ is_in mode.KeyWrap header k h = let same : KeyWrap ≡ k = cc h in rw (sym same)
 is_in mode.Password header k h = let is = password_is header k h in rw (sym is.3) is.2
 is_in mode.GcmKeyWrap header k h = let is = gcm_is header k h in rw (sym is.2) refl
 
-pub management_is : (alg : Option KeyManagementAlg) (header : Members) (m : KeyManagement) → management_by alg header ≡ Ok m → is_management_of alg m ≡ true
+pub management_is : (alg : Option KeyAlg) (header : Members) (m : KeyManagement) → management_by alg header ≡ Ok m → is_management_of alg m ≡ true
 management_is None header m h = let same : Unknown ≡ m = cc h in rw (sym same) refl
 management_is (Some alg) header m h = is_in (mode_of alg) header m h

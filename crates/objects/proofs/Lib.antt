@@ -29,6 +29,7 @@ pub mod JwsWritten
 pub mod JwsFrames
 pub mod MadeJwe
 pub mod MadeJws
+pub mod BuiltJws
 pub mod BuildingJwe
 pub mod Building
 pub mod BuildingJws

@@ -5,7 +5,7 @@ use Rattle.std.specs.List.{list_all}
 use Rattle.octets.specs.declared.refusal.Refusal.TheVariants.{Header, Unsupported}
 use Rattle.octets.specs.Outcomes.{needs}
 use Rattle.serde_json.specs.Data.{Members, no_members}
-use Rattle.keys.specs.declared.algorithm.KeyManagementAlg.{KeyManagementAlg}
+use Rattle.ciphers.specs.declared.key_alg.KeyAlg.{KeyAlg}
 use Rattle.objects.specs.Headers.{protected_members, joint_header, string_there}
 use Rattle.objects.specs.Jwe.{RecipientParts, Recipient, JweParts, EncryptedObject, recipient_parts_of, parts_of, recipient_by, recipient_of, recipients_of, recipients_of_one_enc, have_one_enc, have_no_crit_or_zip, encrypted_object}
 use Rattle.objects.specs.Jws.{SignatureParts, Signature, DecodedSignature, HeadedSignature, SignedObject, signature_parts_of, headed_signature, signature_by, headers_have_no_crit, signatures_of, signed_object}
@@ -16,7 +16,7 @@ use Rattle.octets.proofs.Lemmas.{steps, same_answer}
 
 -- ---- encrypted objects
 
-recipient_by_is : (algs : List KeyManagementAlg) (header : Members) (p : RecipientParts) (r : Recipient) → recipient_by algs header p ≡ Ok r
+recipient_by_is : (algs : List KeyAlg) (header : Members) (p : RecipientParts) (r : Recipient) → recipient_by algs header p ≡ Ok r
     → recipient_parts_of r ≡ p
 unfolding recipient_by
 recipient_by_is algs header p r h =
@@ -25,14 +25,14 @@ recipient_by_is algs header p r h =
     let c = steps (key_management algs a.0 header) _ r b.2 in
     ap recipient_parts_of (sym (same_answer _ r c.2))
 
-recipient_is : (algs : List KeyManagementAlg) (protected unprotected : Members) (p : RecipientParts) (r : Recipient)
+recipient_is : (algs : List KeyAlg) (protected unprotected : Members) (p : RecipientParts) (r : Recipient)
     → recipient_of algs protected unprotected p ≡ Ok r → recipient_parts_of r ≡ p
 unfolding recipient_of
 recipient_is algs protected unprotected p r h =
     let a = steps (joint_header protected unprotected p.header) (λ header. recipient_by algs header p) r h in
     recipient_by_is algs a.0 p r a.2
 
-pub object_is : (algs : List KeyManagementAlg) (octets : List ℕ) (parts : JweParts) (o : EncryptedObject)
+pub object_is : (algs : List KeyAlg) (octets : List ℕ) (parts : JweParts) (o : EncryptedObject)
     → encrypted_object algs octets parts ≡ Ok o → parts_of o ≡ parts
 unfolding encrypted_object recipients_of_one_enc
 object_is algs octets parts o h =
@@ -55,7 +55,7 @@ headed_is d s h =
     let a = steps (protected_members d.octets) _ s h in
     ap (λ (s : HeadedSignature). s.parts) (sym (same_answer _ s a.2))
 
-signature_is : (algs : List KeyManagementAlg) (d : HeadedSignature) (s : Signature) → signature_by algs d ≡ Ok s → signature_parts_of s ≡ d.parts
+signature_is : (algs : List KeyAlg) (d : HeadedSignature) (s : Signature) → signature_by algs d ≡ Ok s → signature_parts_of s ≡ d.parts
 unfolding signature_by
 signature_is algs d s h =
     let a = steps (joint_header d.members no_members d.parts.header) _ s h in
@@ -68,7 +68,7 @@ pub record IsSigned (octets : List ℕ) (decoded : List DecodedSignature) (o : S
   pub payload : o.payload ≡ octets
   pub signatures : map signature_parts_of o.signatures ≡ map (λ (d : DecodedSignature). d.parts) decoded
 
-pub signed_is : (algs : List KeyManagementAlg) (octets : List ℕ) (decoded : List DecodedSignature) (o : SignedObject) → signed_object algs octets decoded ≡ Ok o
+pub signed_is : (algs : List KeyAlg) (octets : List ℕ) (decoded : List DecodedSignature) (o : SignedObject) → signed_object algs octets decoded ≡ Ok o
     → IsSigned octets decoded o
 unfolding signed_object signatures_of
 signed_is algs octets decoded o h =

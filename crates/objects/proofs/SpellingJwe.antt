@@ -12,7 +12,7 @@ use Rattle.octets.specs.Base64url.{base64url, decoded}
 use Rattle.octets.specs.Octets.{IsOctets}
 use Rattle.octets.specs.Outcomes.{◌>>=◌, needs}
 use Rattle.keys.specs.JsonTexts.{IsJson, AreJsonMembers}
-use Rattle.keys.specs.declared.algorithm.KeyManagementAlg.{KeyManagementAlg}
+use Rattle.ciphers.specs.declared.key_alg.KeyAlg.{KeyAlg}
 use Rattle.keys.specs.Limits.{Limits, are_few}
 use Rattle.objects.specs.Headers.{header_at}
 use Rattle.objects.specs.Jwe.{JweParts, RecipientParts, EncryptedObject, encoded_recipient, no_recipient_at, recipients_by, recipient_objects, encoded_in_json, decoded_recipient, decoded_members, encrypted_object, decoded_object, nest_at_most, headers_are_shallow, have_whole_numbers, built, parts_of, AreMembers}
@@ -140,7 +140,7 @@ spelled o = parts_spelled (parts_of o)
 -- ---- the members of which an object is made
 
 -- An object has the texts of the parts that it is made of.
-pub object_keeps : (algs : List KeyManagementAlg) (octets : List ℕ) (parts : JweParts) (o : EncryptedObject) → encrypted_object algs octets parts ≡ Ok o
+pub object_keeps : (algs : List KeyAlg) (octets : List ℕ) (parts : JweParts) (o : EncryptedObject) → encrypted_object algs octets parts ≡ Ok o
     → spelled o ≡ parts_spelled parts
 object_keeps algs octets parts o h = ap parts_spelled (object_is algs octets parts o h)
 

@@ -13,5 +13,7 @@ pub mod Writing
 pub mod JwsWriting
 -- the texts of an encrypted object
 pub mod JweWriting
+-- objects that are made without reading them again
+pub mod Making
 -- the texts around a content, and what fills them
 pub mod Frames

@@ -11,7 +11,7 @@ use Rattle.octets.specs.Outcomes.{◌>>=◌, needs}
 use Rattle.octets.specs.Octets.{IsOctets}
 use Rattle.octets.specs.Base64url.{base64url, decoded}
 use Rattle.octets.specs.LineEnds.{without_line_end}
-use Rattle.keys.specs.declared.algorithm.KeyManagementAlg.{KeyManagementAlg}
+use Rattle.ciphers.specs.declared.key_alg.KeyAlg.{KeyAlg}
 use Rattle.keys.specs.Json.{json_value, member_numbers_are_whole}
 use Rattle.keys.specs.JsonTexts.{AreJsonMembers}
 use Rattle.keys.specs.Limits.{Limits, are_few}
@@ -142,20 +142,20 @@ pub record EncryptedObject : Type 0 where
 -- ---- the header of a recipient (RFC 7516 section 5.2, step 4)
 
 -- a recipient, by its joint header
-unfoldable pub recipient_by : List KeyManagementAlg → Members → RecipientParts → Result Recipient Refusal
+unfoldable pub recipient_by : List KeyAlg → Members → RecipientParts → Result Recipient Refusal
 recipient_by algs header parts = do
   alg ← string_there (codes "alg") header
   enc ← string_there (codes "enc") header
   management ← key_management algs alg header
   Ok (record { header = parts.header; encrypted_key = parts.encrypted_key; alg = alg; enc = enc; management = management })
 
-unfoldable pub recipient_of : List KeyManagementAlg → Members → Members → RecipientParts → Result Recipient Refusal
+unfoldable pub recipient_of : List KeyAlg → Members → Members → RecipientParts → Result Recipient Refusal
 recipient_of algs protected unprotected parts = do
   header ← joint_header protected unprotected parts.header
   recipient_by algs header parts
 
 -- the recipients, in order
-abbrev pub recipients_of : List KeyManagementAlg → Members → Members → List RecipientParts → Result (List Recipient) Refusal
+abbrev pub recipients_of : List KeyAlg → Members → Members → List RecipientParts → Result (List Recipient) Refusal
 recipients_of algs protected unprotected parts = each (recipient_of algs protected unprotected) parts
 
 -- `enc` is the same for all (section 7.2.1)
@@ -166,7 +166,7 @@ abbrev pub have_one_enc : List Recipient → Bool
 have_one_enc [] = true
 have_one_enc (first ∷ rest) = have_enc first.enc (first ∷ rest)
 
-unfoldable pub recipients_of_one_enc : List KeyManagementAlg → Members → Members → List RecipientParts → Result (List Recipient) Refusal
+unfoldable pub recipients_of_one_enc : List KeyAlg → Members → Members → List RecipientParts → Result (List Recipient) Refusal
 recipients_of_one_enc algs protected unprotected parts = do
   recipients ← recipients_of algs protected unprotected parts
   one ← needs (have_one_enc recipients) Header
@@ -184,7 +184,7 @@ have_no_crit_or_zip protected unprotected recipients =
     has_no_crit_or_zip protected && (has_no_crit_or_zip unprotected && list_all (λ r. has_no_crit_or_zip r.header) recipients)
 
 -- the object with these members and these octets of its protected header (RFC 7516 section 5.2, steps 3 to 5)
-unfoldable pub encrypted_object : List KeyManagementAlg → List ℕ → JweParts → Result EncryptedObject Refusal
+unfoldable pub encrypted_object : List KeyAlg → List ℕ → JweParts → Result EncryptedObject Refusal
 encrypted_object algs octets parts = do
   protected ← protected_members octets
   recipients ← recipients_of_one_enc algs protected parts.unprotected parts.recipients

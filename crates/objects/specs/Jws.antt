@@ -11,7 +11,7 @@ use Rattle.octets.specs.Outcomes.{◌>>=◌, needs}
 use Rattle.octets.specs.Octets.{IsOctets}
 use Rattle.octets.specs.Base64url.{base64url, decoded}
 use Rattle.octets.specs.LineEnds.{without_line_end}
-use Rattle.keys.specs.declared.algorithm.KeyManagementAlg.{KeyManagementAlg}
+use Rattle.ciphers.specs.declared.key_alg.KeyAlg.{KeyAlg}
 use Rattle.keys.specs.Json.{json_value, member_numbers_are_whole}
 use Rattle.keys.specs.JsonTexts.{AreJsonMembers}
 use Rattle.keys.specs.Limits.{Limits, are_few}
@@ -124,7 +124,7 @@ headed_signature s = do
 
 -- Its headers have no name in common, and one of them names the algorithm. If that is one of key management, they have its parameters. See
 -- RFC 7515 section 5.2, step 4, and docs/SPECIFICATION.md "Objects" 3.
-unfoldable pub signature_by : List KeyManagementAlg → HeadedSignature → Result Signature Refusal
+unfoldable pub signature_by : List KeyAlg → HeadedSignature → Result Signature Refusal
 signature_by algs s = do
   header ← joint_header s.members no_members s.parts.header
   alg ← string_there (codes "alg") header
@@ -136,7 +136,7 @@ abbrev pub headers_have_no_crit : HeadedSignature → Bool
 headers_have_no_crit s = has_no_crit s.members && has_no_crit s.parts.header
 
 -- Each step is done for every signature before the next step. See RFC 7515 section 5.2, steps 3 to 5 and 9.
-unfoldable pub signatures_of : List KeyManagementAlg → List DecodedSignature → Result (List Signature) Refusal
+unfoldable pub signatures_of : List KeyAlg → List DecodedSignature → Result (List Signature) Refusal
 signatures_of algs decoded = do
   headed ← each headed_signature decoded
   signatures ← each (signature_by algs) headed
@@ -144,7 +144,7 @@ signatures_of algs decoded = do
   Ok signatures
 
 -- the object of a payload and these signatures
-unfoldable pub signed_object : List KeyManagementAlg → List ℕ → List DecodedSignature → Result SignedObject Refusal
+unfoldable pub signed_object : List KeyAlg → List ℕ → List DecodedSignature → Result SignedObject Refusal
 signed_object algs payload decoded = do
   signatures ← signatures_of algs decoded
   Ok (record { payload = payload; signatures = signatures })

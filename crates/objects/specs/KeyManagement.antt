@@ -6,10 +6,10 @@ use Rattle.serde_json.specs.Data.{Members}
 use Rattle.octets.specs.declared.refusal.Refusal.{Refusal}
 use Rattle.octets.specs.declared.refusal.Refusal.TheVariants.{Header}
 use Rattle.octets.specs.Outcomes.{◌>>=◌, needs}
-use Rattle.keys.specs.declared.algorithm.KeyManagementAlg.{KeyManagementAlg}
-use Rattle.keys.specs.declared.algorithm.KeyManagementMode.{KeyManagementMode}
-use Rattle.keys.specs.declared.algorithm.KeyManagementMode.TheVariants as mode
-use Rattle.keys.specs.Algorithms.{management_alg_among, mode_of}
+use Rattle.ciphers.specs.declared.key_alg.KeyAlg.{KeyAlg}
+use Rattle.ciphers.specs.declared.key_alg.KeyManagementMode.{KeyManagementMode}
+use Rattle.ciphers.specs.declared.key_alg.KeyManagementMode.TheVariants as mode
+use Rattle.ciphers.specs.Algorithms.{management_alg_among, mode_of}
 use Rattle.objects.specs.Headers.{number_parameter, salt_parameter, octets_parameter}
 
 -- How a recipient's key delivers the content encryption key, with the header parameters that its algorithm reads. See RFC 7518 section 4.1.
@@ -53,10 +53,10 @@ management_in mode.Password header = password_management header
 management_in mode.GcmKeyWrap header = gcm_management header
 
 -- what a header says, by its algorithm (RFC 7518 section 4.1)
-abbrev pub management_by : Option KeyManagementAlg → Members → Result KeyManagement Refusal
+abbrev pub management_by : Option KeyAlg → Members → Result KeyManagement Refusal
 management_by None header = Ok Unknown
 management_by (Some alg) header = management_in (mode_of alg) header
 
 -- what a header says, by the name of its algorithm among those that are known (RFC 7518 section 4.1, docs/SPECIFICATION.md "Objects" 3)
-abbrev pub key_management : List KeyManagementAlg → List ℕ → Members → Result KeyManagement Refusal
+abbrev pub key_management : List KeyAlg → List ℕ → Members → Result KeyManagement Refusal
 key_management algs alg header = management_by (management_alg_among algs alg) header

@@ -1,7 +1,6 @@
 //! JOSE headers (RFC 7515 section 4, RFC 7516 section 4): their members.
 ghost use Rattle.std.specs.Prelude.{◌≡◌, true, false, IfErr, Some, codes, is_some, option_map, string_bytes};
 ghost use Rattle.std.specs.Option.{ok_or};
-ghost use Rattle.octets.specs.Base64url.{decoded};
 ghost use Rattle.octets.specs.Code.Results.{Agrees, AgreesUnlessMemory};
 ghost use Rattle.serde_json.specs.Find.{get_member};
 ghost use Rattle.serde_json.specs.View.{view};

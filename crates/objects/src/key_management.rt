@@ -1,7 +1,7 @@
 //! How a recipient's key delivers the content encryption key (RFC 7518 section 4), as a joint header says.
 ghost use Rattle.std.specs.Prelude.{◌≡◌, true, IfOk};
 ghost use Rattle.octets.specs.Code.Results.{AgreesUnlessMemory};
-ghost use Rattle.keys.specs.Algorithms.{management_alg_of};
+ghost use Rattle.ciphers.specs.Algorithms.{management_alg_of};
 ghost use Rattle.keys.specs.Limits.{limits};
 ghost use Rattle.objects.specs.KeyManagement.{key_management, management_by, management_in, password_management, gcm_management};
 ghost use Rattle.objects.specs.Code.SharedParameters.{AreReadIn};
@@ -12,7 +12,7 @@ pub(crate) mod named;
 
 use crate::header::shared::SharedParameters;
 use crate::{Header, SharedOctets};
-use keys::{KeyManagementAlg, KeyManagementMode};
+use ciphers::{KeyAlg, KeyManagementMode};
 use octets::{Refusal, needs};
 use std::alloc::Global;
 
@@ -52,13 +52,13 @@ pub(crate) fn read_key_management(
     ensures exact { AgreesUnlessMemory management_view result (key_management limits.management alg.now (header_view header.entry)) }
     ensures of_alg { IfOk result (λ management. is_management_of (management_alg_of alg.now) (management_view management) ≡ true) }
 {
-    read_management(alloc, KeyManagementAlg::named(alg), header, shared)
+    read_management(alloc, KeyAlg::named(alg), header, shared)
 }
 
 /// What a header says, by its algorithm.
 fn read_management(
     alloc: Global,
-    alg: Option<KeyManagementAlg>,
+    alg: Option<KeyAlg>,
     header: Header<'_>,
     shared: &SharedParameters,
 ) -> Result<KeyManagement, Refusal>

@@ -35,7 +35,7 @@ pub use jwe::Jwe;
 pub use jwe::parts::{JweParts, RecipientParts};
 pub use jwe::recipient::Recipient;
 pub use jws::Jws;
-pub use jws::parts::{JwsParts, SignatureParts};
+pub use jws::parts::{JwsParts, MadeSignature, SignatureParts};
 pub use jws::signature::Signature;
 pub use key_management::KeyManagement;
 pub use shared::SharedOctets;

@@ -203,7 +203,7 @@ impl FailingOutput {
 }
 
 impl Output for FailingOutput {
-    ghost use Rattle.octets.specs.Code.FailingDevices.{output_store, output_written, output_is_finished, output_endings, output_failures, output_course, output_room, output_step, output_count};
+    ghost use Rattle.octets.specs.Code.FailingDevices.{output_written, output_is_finished, output_endings, output_failures, output_course, output_room, output_step, output_count};
 
     ghost written = { output_written };
 

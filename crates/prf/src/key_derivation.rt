@@ -1,5 +1,5 @@
 //! PBKDF2 (RFC 8018 section 5.2).
-ghost use Rattle.std.specs.Prelude.{◌≡◌, ℕ, ◌*◌, ◌<◌, ◌≤◌, List, [], ◌^◌, length, map, take, drop};
+ghost use Rattle.std.specs.Prelude.{◌≡◌, ℕ, ◌*◌, ◌<◌, ◌≤◌, List, [], length, map, take, drop};
 ghost use Rattle.std.specs.List.{concat};
 ghost use Rattle.prf.specs.Pbkdf2.{block_count, derived_block, iterate, pbkdf2};
 ghost use Rattle.prf.specs.Code.Views.{HoldsHmac};

@@ -8,8 +8,8 @@ use Rattle.octets.specs.declared.refusal.Refusal.{Refusal}
 use Rattle.octets.specs.declared.refusal.Refusal.TheVariants.{Header, Unsupported, Limit}
 use Rattle.octets.specs.Base64url.{decoded}
 use Rattle.octets.specs.Outcomes.{needs}
-use Rattle.keys.specs.declared.algorithm.KeyManagementAlg.{KeyManagementAlg}
-use Rattle.keys.specs.Algorithms.{management_name, management_alg_among}
+use Rattle.ciphers.specs.declared.key_alg.KeyAlg.{KeyAlg}
+use Rattle.ciphers.specs.Algorithms.{management_name, management_alg_among}
 use Rattle.keys.specs.Keys.{OctetKey}
 use Rattle.keys.specs.Limits.{Limits, are_few}
 use Rattle.objects.specs.Headers.{protected_members, joint_header, string_there}
@@ -26,23 +26,23 @@ use Rattle.tokens.specs.MoreAlgorithms.{knowing, needs_no_more, OpensAlike}
 -- ---- names
 
 -- A name is looked up among the first algorithms, and then among the others.
-found_among : (known further : List KeyManagementAlg) (name : List ℕ)
+found_among : (known further : List KeyAlg) (name : List ℕ)
     → management_alg_among (known ++ further) name ≡ option_or (management_alg_among known name) (management_alg_among further name)
 unfolding management_alg_among
 found_among [] further name = refl
 found_among (alg ∷ known) further name = by_test (bytes_eq name (management_name alg)) _ _ _ (found_among known further name)
   where
-    by_test : (named : Bool) (all first others : Option KeyManagementAlg) → all ≡ option_or first others
+    by_test : (named : Bool) (all first others : Option KeyAlg) → all ≡ option_or first others
         → (if named then Some alg else all) ≡ option_or (if named then Some alg else first) others
     by_test true all first others rest = refl
     by_test false all first others rest = rest
 
 -- A name that needs none of the further algorithms is looked up the same with them.
-named_alike : (known further : List KeyManagementAlg) (name : List ℕ) → needs_no_more known further name ≡ true
+named_alike : (known further : List KeyAlg) (name : List ℕ) → needs_no_more known further name ≡ true
     → management_alg_among (known ++ further) name ≡ management_alg_among known name
 named_alike known further name enough = found_among known further name ∙ by_found (management_alg_among known name) (management_alg_among further name) enough
   where
-    by_found : (first other : Option KeyManagementAlg) → (is_some first || not (is_some other)) ≡ true → option_or first other ≡ first
+    by_found : (first other : Option KeyAlg) → (is_some first || not (is_some other)) ≡ true → option_or first other ≡ first
     by_found (Some alg) other enough = refl
     by_found None None enough = refl
     by_found None (Some alg) enough = cc enough
@@ -66,7 +66,7 @@ each_alike P read other alike (x ∷ xs) ys all h =
 abbrev recipient_with : RecipientParts → List ℕ → List ℕ → KeyManagement → Recipient
 recipient_with parts alg enc q = record { header = parts.header; encrypted_key = parts.encrypted_key; alg = alg; enc = enc; management = q }
 
-recipient_made : (algs : List KeyManagementAlg) (p u header : Members) (parts : RecipientParts) (alg enc : List ℕ) (q : KeyManagement)
+recipient_made : (algs : List KeyAlg) (p u header : Members) (parts : RecipientParts) (alg enc : List ℕ) (q : KeyManagement)
     → joint_header p u parts.header ≡ Ok header
     → string_there (codes "alg") header ≡ Ok alg → string_there (codes "enc") header ≡ Ok enc → key_management algs alg header ≡ Ok q
     → recipient_of algs p u parts ≡ Ok (recipient_with parts alg enc q)
@@ -86,7 +86,7 @@ object_with parts protected recipients = record {
   recipients = recipients;
 }
 
-object_made : (algs : List KeyManagementAlg) (octets : List ℕ) (parts : JweParts) (protected : Members) (recipients : List Recipient)
+object_made : (algs : List KeyAlg) (octets : List ℕ) (parts : JweParts) (protected : Members) (recipients : List Recipient)
     → protected_members octets ≡ Ok protected
     → recipients_of algs protected parts.unprotected parts.recipients ≡ Ok recipients → have_one_enc recipients ≡ true
     → have_no_crit_or_zip protected parts.unprotected parts.recipients ≡ true
@@ -95,7 +95,7 @@ unfolding encrypted_object recipients_of_one_enc
 object_made algs octets parts protected recipients a b c d = rw (a, b, c, d) refl
 
 -- The text of an encrypted object is decoded and then read as the object.
-text_read : (limits : Limits) (algs : List KeyManagementAlg) (detached : Option (List ℕ)) (text octets : List ℕ) (texts : JweParts) (parts : JweParts)
+text_read : (limits : Limits) (algs : List KeyAlg) (detached : Option (List ℕ)) (text octets : List ℕ) (texts : JweParts) (parts : JweParts)
     → encoded_jwe detached text ≡ Ok texts
     → are_few limits (length texts.recipients) ≡ true → decoded texts.protected ≡ Ok octets → decoded_members texts ≡ Ok parts
     → jwe_of (knowing limits algs) detached text ≡ encrypted_object algs octets parts
@@ -112,21 +112,21 @@ signature_with s alg = record {
   alg = alg;
 }
 
-signature_made : (algs : List KeyManagementAlg) (s : HeadedSignature) (header : Members) (alg : List ℕ) (q : KeyManagement)
+signature_made : (algs : List KeyAlg) (s : HeadedSignature) (header : Members) (alg : List ℕ) (q : KeyManagement)
     → joint_header s.members no_members s.parts.header ≡ Ok header
     → string_there (codes "alg") header ≡ Ok alg → key_management algs alg header ≡ Ok q → signature_by algs s ≡ Ok (signature_with s alg)
 unfolding signature_by
 signature_made algs s header alg q a b c = rw (a, b, c) refl
 
 -- The steps of reading lead to the signed object.
-signed_made : (algs : List KeyManagementAlg) (payload : List ℕ) (decoded : List DecodedSignature) (headed : List HeadedSignature) (signatures : List Signature)
+signed_made : (algs : List KeyAlg) (payload : List ℕ) (decoded : List DecodedSignature) (headed : List HeadedSignature) (signatures : List Signature)
     → each headed_signature decoded ≡ Ok headed → each (signature_by algs) headed ≡ Ok signatures → list_all jws.headers_have_no_crit headed ≡ true
     → signed_object algs payload decoded ≡ Ok (record { payload = payload; signatures = signatures })
 unfolding signed_object signatures_of
 signed_made algs payload decoded headed signatures a b c = rw (a, b, c) refl
 
 -- The text of a signed object is decoded and then read as the object.
-signed_text_read : (limits : Limits) (algs : List KeyManagementAlg) (detached : Option (List ℕ)) (text payload : List ℕ) (texts : JwsParts)
+signed_text_read : (limits : Limits) (algs : List KeyAlg) (detached : Option (List ℕ)) (text payload : List ℕ) (texts : JwsParts)
     (signatures : List DecodedSignature)
     → encoded_jws detached text ≡ Ok texts → are_few limits (length texts.signatures) ≡ true → decoded texts.payload ≡ Ok payload
     → each decoded_signature texts.signatures ≡ Ok signatures → jws_of (knowing limits algs) detached text ≡ signed_object algs payload signatures
@@ -134,7 +134,7 @@ unfolding jws_of jws.decoded_object
 signed_text_read limits algs detached text payload texts signatures a b c d = rw (a, b, c, d) refl
 
 -- ---- if two lists of algorithms look up enough names the same
-module _ (limits : Limits) (algs others : List KeyManagementAlg) (enough : List ℕ → Bool)
+module _ (limits : Limits) (algs others : List KeyAlg) (enough : List ℕ → Bool)
     (alike : (name : List ℕ) → enough name ≡ true → management_alg_among algs name ≡ management_alg_among others name) where
   -- The key management is read the same.
   management_alike : (header : Members) (alg : List ℕ) (q : KeyManagement) → enough alg ≡ true → key_management algs alg header ≡ Ok q
@@ -255,9 +255,9 @@ module _ (limits : Limits) (algs others : List KeyManagementAlg) (enough : List 
 
 -- ---- with and without the further algorithms
 
-pub opens_alike : (limits : Limits) (known further : List KeyManagementAlg) → OpensAlike limits known further
+pub opens_alike : (limits : Limits) (known further : List KeyAlg) → OpensAlike limits known further
 opens_alike limits known further =
-    let more : List KeyManagementAlg = known ++ further in
+    let more : List KeyAlg = known ++ further in
     let enough : List ℕ → Bool = needs_no_more known further in
     let back : (name : List ℕ) → enough name ≡ true → management_alg_among known name ≡ management_alg_among more name =
     λ name is. sym (named_alike known further name is) in

@@ -8,13 +8,15 @@ use Rattle.octets.specs.declared.refusal.Refusal.{Refusal}
 use Rattle.octets.specs.declared.refusal.Refusal.TheVariants.{Header, NoAlgorithm, KeyDoesNotFit, Limit, NotCompact}
 use Rattle.octets.specs.Outcomes.{◌>>=◌, needs}
 use Rattle.keys.specs.declared.algorithm.Algorithm.TheVariants.{Encryption as EncryptionWith}
-use Rattle.keys.specs.declared.algorithm.ContentEncryptionAlg.{ContentEncryptionAlg}
-use Rattle.keys.specs.declared.algorithm.ContentEncryptionAlg.TheVariants.{A128CbcHs256, A192CbcHs384, A256CbcHs512}
-use Rattle.keys.specs.declared.algorithm.KeyManagementAlg.{KeyManagementAlg}
-use Rattle.keys.specs.declared.algorithm.KeyManagementAlg.TheVariants.{Dir, A128Kw, A192Kw, A256Kw}
-use Rattle.keys.specs.declared.algorithm.KeyManagementMode.{KeyManagementMode}
-use Rattle.keys.specs.declared.algorithm.KeyManagementMode.TheVariants as mode
-use Rattle.keys.specs.Algorithms.{encryption_name, cek_len, management_alg_of, encryption_alg_of, mode_of, kek_len, is_password_based, management_operations}
+use Rattle.ciphers.specs.declared.content_alg.ContentAlg.{ContentAlg}
+use Rattle.ciphers.specs.declared.content_alg.ContentAlg.TheVariants.{A128CbcHs256, A192CbcHs384, A256CbcHs512}
+use Rattle.ciphers.specs.declared.key_alg.KeyAlg.{KeyAlg}
+use Rattle.ciphers.specs.declared.key_alg.KeyAlg.TheVariants.{Dir, A128Kw, A192Kw, A256Kw}
+use Rattle.ciphers.specs.declared.key_alg.KeyManagementMode.{KeyManagementMode}
+use Rattle.ciphers.specs.declared.key_alg.KeyManagementMode.TheVariants as mode
+use Rattle.ciphers.specs.Algorithms.{encryption_name, management_alg_of, encryption_alg_of, mode_of, kek_len, is_password_based}
+use Rattle.ciphers.specs.Sealing.{cek_len}
+use Rattle.keys.specs.Algorithms.{management_operations}
 use Rattle.keys.specs.Json.{json_value}
 use Rattle.keys.specs.Keys.{OctetKey, allows, fits}
 use Rattle.keys.specs.Limits.{Limits}
@@ -25,43 +27,43 @@ use Rattle.tokens.specs.Template.{is_shallow, is_empty}
 -- ---- the algorithms of a key (docs/SPECIFICATION.md "Encrypting" 2 and 3)
 
 -- the one whose keys have n octets
-abbrev pub management_by_length : ℕ → Option KeyManagementAlg
+abbrev pub management_by_length : ℕ → Option KeyAlg
 management_by_length n = find (λ alg. n == kek_len alg) (A128Kw ∷ A192Kw ∷ A256Kw ∷ [])
 
 -- the one that its `alg` names, where the name of a content encryption asks for direct use
-abbrev pub management_by_name : Option KeyManagementAlg → Option ContentEncryptionAlg → Option KeyManagementAlg
+abbrev pub management_by_name : Option KeyAlg → Option ContentAlg → Option KeyAlg
 management_by_name management enc = option_or management (option_map (λ alg. Dir) enc)
 
-abbrev pub management_of_key : Option (List ℕ) → ℕ → Result KeyManagementAlg Refusal
+abbrev pub management_of_key : Option (List ℕ) → ℕ → Result KeyAlg Refusal
 management_of_key None n = ok_or (management_by_length n) NoAlgorithm
 management_of_key (Some name) n = ok_or (management_by_name (management_alg_of name) (encryption_alg_of name)) KeyDoesNotFit
 
 -- that of the template, or that of the key
-abbrev pub chosen_management : Option KeyManagementAlg → OctetKey → Result KeyManagementAlg Refusal
+abbrev pub chosen_management : Option KeyAlg → OctetKey → Result KeyAlg Refusal
 chosen_management (Some alg) key = Ok alg
 chosen_management None key = management_of_key key.alg (length key.octets)
 
 -- AES in CBC mode with HMAC, by the length of the key
-abbrev pub cbc_algs : List ContentEncryptionAlg
+abbrev pub cbc_algs : List ContentAlg
 cbc_algs = A128CbcHs256 ∷ A192CbcHs384 ∷ A256CbcHs512 ∷ []
 
 -- the one whose key has n octets, where the key is used directly
-abbrev pub encryption_by_length : ℕ → Option ContentEncryptionAlg
+abbrev pub encryption_by_length : ℕ → Option ContentAlg
 encryption_by_length n = find (λ enc. n == cek_len enc) cbc_algs
 
 -- the one whose AES key, half of the content encryption key, is as long as the key of the wrap, of n octets
-abbrev pub encryption_by_wrap : ℕ → Option ContentEncryptionAlg
+abbrev pub encryption_by_wrap : ℕ → Option ContentAlg
 encryption_by_wrap n = find (λ enc. 2 * n == cek_len enc) cbc_algs
 
 -- the one that goes with key management
-abbrev pub encryption_in : KeyManagementMode → ℕ → OctetKey → Option ContentEncryptionAlg
+abbrev pub encryption_in : KeyManagementMode → ℕ → OctetKey → Option ContentAlg
 encryption_in mode.Direct n key = option_or (option_and_then encryption_alg_of key.alg) (encryption_by_length (length key.octets))
 encryption_in mode.KeyWrap n key = encryption_by_wrap n
 encryption_in mode.Password n key = encryption_by_wrap n
 encryption_in mode.GcmKeyWrap n key = encryption_by_wrap n
 
 -- that of the template, or else the one that goes with key management
-abbrev pub chosen_encryption : Option ContentEncryptionAlg → KeyManagementAlg → OctetKey → Result ContentEncryptionAlg Refusal
+abbrev pub chosen_encryption : Option ContentAlg → KeyAlg → OctetKey → Result ContentAlg Refusal
 chosen_encryption (Some enc) alg key = Ok enc
 chosen_encryption None alg key = ok_or (encryption_in (mode_of alg) (kek_len alg) key) NoAlgorithm
 
@@ -70,9 +72,9 @@ chosen_encryption None alg key = ok_or (encryption_in (mode_of alg) (kek_len alg
 -- a key, and the algorithm by which it receives the content encryption key
 pub record RecipientKey : Type 0 where
   pub key : OctetKey
-  pub management : KeyManagementAlg
+  pub management : KeyAlg
 
-unfoldable pub recipient_key_by : Option KeyManagementAlg → OctetKey → Result RecipientKey Refusal
+unfoldable pub recipient_key_by : Option KeyAlg → OctetKey → Result RecipientKey Refusal
 recipient_key_by asked key = do
   management ← chosen_management asked key
   Ok (record { key = key; management = management })
@@ -84,7 +86,7 @@ is_direct_in mode.Password = false
 is_direct_in mode.GcmKeyWrap = false
 
 -- the key is the content encryption key (RFC 7518 section 4.5)
-abbrev pub is_direct : KeyManagementAlg → Bool
+abbrev pub is_direct : KeyAlg → Bool
 is_direct alg = is_direct_in (mode_of alg)
 
 abbrev pub is_alone : List RecipientKey → Bool
@@ -95,12 +97,12 @@ abbrev pub direct_key_is_alone : List RecipientKey → Bool
 direct_key_is_alone recipient_keys = is_alone recipient_keys || not (list_any (λ r. is_direct r.management) recipient_keys)
 
 -- the content encryption of the template, or the one that goes with the first recipient key
-abbrev pub encryption_for : Option ContentEncryptionAlg → List RecipientKey → Result ContentEncryptionAlg Refusal
+abbrev pub encryption_for : Option ContentAlg → List RecipientKey → Result ContentAlg Refusal
 encryption_for asked [] = Err NoAlgorithm
 encryption_for asked (r ∷ rest) = chosen_encryption asked r.management r.key
 
 -- the key may encrypt, and fits
-abbrev pub may_encrypt : ContentEncryptionAlg → RecipientKey → Bool
+abbrev pub may_encrypt : ContentAlg → RecipientKey → Bool
 may_encrypt encryption r = allows r.key (management_operations r.management).0 && fits r.key (EncryptionWith r.management encryption)
 
 -- ---- the iterations of PBKDF2 (RFC 7518 section 4.8.1.2, docs/SPECIFICATION.md "Encrypting" 4, 5 and 7)
@@ -148,7 +150,7 @@ pub record Given : Type 0 where
 -- The content encryption, the recipient keys in order, and the iterations, which are 0 where no key is a password; the headers, but for
 -- what is written for the recipients; and the additional data.
 pub record EncryptionPlan : Type 0 where
-  pub encryption : ContentEncryptionAlg
+  pub encryption : ContentAlg
   pub recipient_keys : List RecipientKey
   pub given : Given
   pub p2c : ℕ

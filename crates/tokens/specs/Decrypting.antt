@@ -9,24 +9,25 @@ use Rattle.octets.specs.Outcomes.{◌>>=◌, needs}
 use Rattle.octets.specs.Base64url.{base64url}
 use Rattle.ciphers.specs.Openings.{opening, delivered}
 use Rattle.keys.specs.declared.algorithm.Algorithm.TheVariants.{Encryption}
-use Rattle.keys.specs.declared.algorithm.ContentEncryptionAlg.{ContentEncryptionAlg}
-use Rattle.keys.specs.declared.algorithm.KeyManagementAlg.{KeyManagementAlg}
-use Rattle.keys.specs.Algorithms.{management_alg_among, encryption_alg_of, management_operations}
+use Rattle.ciphers.specs.declared.content_alg.ContentAlg.{ContentAlg}
+use Rattle.ciphers.specs.declared.key_alg.KeyAlg.{KeyAlg}
+use Rattle.ciphers.specs.Algorithms.{management_alg_among, encryption_alg_of}
+use Rattle.keys.specs.Algorithms.{management_operations}
 use Rattle.keys.specs.Keys.{OctetKey, allows, fits}
 use Rattle.keys.specs.Limits.{Limits, limits}
 use Rattle.objects.specs.Jwe.{Recipient, EncryptedObject}
 use Rattle.objects.specs.KeyManagement.{KeyManagement, Unknown, Direct, KeyWrap, Password, GcmKeyWrap}
-use Rattle.tokens.specs.Algorithms.{Algorithms, content_alg, key_alg, parameters_by}
+use Rattle.tokens.specs.Algorithms.{Algorithms, parameters_by}
 
 -- ---- the pairs that are tried (RFC 7516 section 5.2, steps 6, 7 and 13, and docs/SPECIFICATION.md "Decrypting" 2)
 
-abbrev pub algorithms_by : Option KeyManagementAlg → Option ContentEncryptionAlg → Option Algorithms
+abbrev pub algorithms_by : Option KeyAlg → Option ContentAlg → Option Algorithms
 algorithms_by None enc = None
 algorithms_by (Some alg) None = None
 algorithms_by (Some alg) (Some enc) = Some (record { management = alg; encryption = enc })
 
 -- the algorithms of a recipient, if both are supported
-unfoldable pub algorithms_of : List KeyManagementAlg → Recipient → Option Algorithms
+unfoldable pub algorithms_of : List KeyAlg → Recipient → Option Algorithms
 algorithms_of algs r = algorithms_by (management_alg_among algs r.alg) (encryption_alg_of r.enc)
 
 -- the key may decrypt by the algorithms, and fits
@@ -46,11 +47,11 @@ abbrev pub pairs_by : List OctetKey → Recipient → Option Algorithms → List
 pairs_by keys r None = []
 pairs_by keys r (Some a) = pairs_with r a keys
 
-abbrev pub pairs_of : List KeyManagementAlg → List OctetKey → Recipient → List Pair
+abbrev pub pairs_of : List KeyAlg → List OctetKey → Recipient → List Pair
 pairs_of algs keys r = pairs_by keys r (algorithms_of algs r)
 
 -- the pairs of the recipients, in order
-abbrev pub all_pairs : List KeyManagementAlg → List OctetKey → List Recipient → List Pair
+abbrev pub all_pairs : List KeyAlg → List OctetKey → List Recipient → List Pair
 all_pairs algs keys [] = []
 all_pairs algs keys (r ∷ recipients) = pairs_of algs keys r ++ all_pairs algs keys recipients
 
@@ -122,12 +123,12 @@ sealed_content o = record { iv = o.iv; aad = additional_authenticated_data o.pro
 -- the content encryption key that the recipient's encrypted key delivers (steps 9 to 11)
 unfoldable pub cek_of : Pair → Option (List ℕ)
 cek_of pair =
-    delivered (key_alg pair.algorithms.management) (content_alg pair.algorithms.encryption) pair.key.octets
+    delivered pair.algorithms.management pair.algorithms.encryption pair.key.octets
     (parameters_by pair.recipient.management) pair.recipient.encrypted_key
 
 -- the plaintext under this key (step 16)
 unfoldable pub opened_by : SealedContent → Pair → Option (List ℕ)
-opened_by s pair = option_and_then (λ cek. opening (content_alg pair.algorithms.encryption) cek s.iv s.aad s.ciphertext s.tag) (cek_of pair)
+opened_by s pair = option_and_then (λ cek. opening pair.algorithms.encryption cek s.iv s.aad s.ciphertext s.tag) (cek_of pair)
 
 -- the plaintext of the first pair that opens
 abbrev pub first_opened : SealedContent → List Pair → Option (List ℕ)

@@ -1,12 +1,11 @@
 -- The delivery of a content encryption key to recipients (RFC 7516 section 5.1, steps 4 to 6).
 use Rattle.std.specs.Prelude.{ℕ, ◌+◌, List, [], ◌∷◌, take, drop}
 use Rattle.ciphers.specs.Delivery.{key_iv_len, Parameters, encrypted_key_of, key_tag_of}
-use Rattle.keys.specs.declared.algorithm.KeyManagementAlg.{KeyManagementAlg}
-use Rattle.keys.specs.declared.algorithm.KeyManagementMode.{KeyManagementMode}
-use Rattle.keys.specs.declared.algorithm.KeyManagementMode.TheVariants as mode
-use Rattle.keys.specs.Algorithms.{mode_of}
+use Rattle.ciphers.specs.declared.key_alg.KeyAlg.{KeyAlg}
+use Rattle.ciphers.specs.declared.key_alg.KeyManagementMode.{KeyManagementMode}
+use Rattle.ciphers.specs.declared.key_alg.KeyManagementMode.TheVariants as mode
+use Rattle.ciphers.specs.Algorithms.{mode_of}
 use Rattle.objects.specs.KeyManagement.{KeyManagement, Direct, KeyWrap, Password, GcmKeyWrap}
-use Rattle.tokens.specs.Algorithms.{key_alg}
 use Rattle.tokens.specs.Choosing.{RecipientKey, EncryptionPlan}
 
 -- ---- what is drawn for the recipients (docs/SPECIFICATION.md "Encrypting" 6)
@@ -22,7 +21,7 @@ drawn_in mode.KeyWrap = 0
 drawn_in mode.Password = salt_len
 drawn_in mode.GcmKeyWrap = key_iv_len
 
-abbrev pub drawn_by : KeyManagementAlg → ℕ
+abbrev pub drawn_by : KeyAlg → ℕ
 drawn_by alg = drawn_in (mode_of alg)
 
 -- how many octets are drawn for a recipient
@@ -48,12 +47,12 @@ delivered_in mode.KeyWrap drawn p2c tag = KeyWrap
 delivered_in mode.Password drawn p2c tag = Password drawn p2c
 delivered_in mode.GcmKeyWrap drawn p2c tag = GcmKeyWrap drawn tag
 
-abbrev pub management_with : KeyManagementAlg → List ℕ → ℕ → List ℕ → KeyManagement
+abbrev pub management_with : KeyAlg → List ℕ → ℕ → List ℕ → KeyManagement
 management_with alg drawn p2c tag = delivered_in (mode_of alg) drawn p2c tag
 
 -- an encrypted key, and how it delivers the content encryption key
 pub record Delivery : Type 0 where
-  pub alg : KeyManagementAlg
+  pub alg : KeyAlg
   pub management : KeyManagement
   pub encrypted_key : List ℕ
 
@@ -61,8 +60,8 @@ pub record Delivery : Type 0 where
 abbrev pub delivery_to : EncryptionPlan → List ℕ → RecipientKey → List ℕ → Delivery
 delivery_to e cek r drawn = record {
   alg = r.management;
-  management = management_with r.management drawn e.p2c (key_tag_of (key_alg r.management) r.key.octets (parameters_with drawn e.p2c) cek);
-  encrypted_key = encrypted_key_of (key_alg r.management) r.key.octets (parameters_with drawn e.p2c) cek;
+  management = management_with r.management drawn e.p2c (key_tag_of r.management r.key.octets (parameters_with drawn e.p2c) cek);
+  encrypted_key = encrypted_key_of r.management r.key.octets (parameters_with drawn e.p2c) cek;
 }
 
 -- the deliveries to recipients, in order; their octets follow one another

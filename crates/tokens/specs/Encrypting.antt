@@ -11,13 +11,13 @@ use Rattle.octets.specs.Octets.{IsOctets}
 use Rattle.octets.specs.Plan.{OutputTexts, Plan, BothGrow, Draft, planned, plan_from}
 use Rattle.ciphers.specs.Openings.{is_longer}
 use Rattle.ciphers.specs.Sealing.{Sealed, Sealing, IsTooLong, sealing, cek_len, iv_len}
-use Rattle.keys.specs.Algorithms.{management_name, management_operations, management_algs}
+use Rattle.ciphers.specs.Algorithms.{management_name, management_algs}
+use Rattle.keys.specs.Algorithms.{management_operations}
 use Rattle.keys.specs.Keys.{OctetKey, AreOctetKeys, allows}
 use Rattle.keys.specs.Limits.{Limits, limits, are_few}
 use Rattle.objects.specs.KeyManagement.{KeyManagement, Unknown, Direct, KeyWrap, Password, GcmKeyWrap}
 use Rattle.objects.specs.Jwe.{RecipientParts, JweParts, EncryptedObject, built, jwe_of, jwe_text}
 use Rattle.objects.specs.Texts.{handed_in, handed_out, listed_header_depth, before_content}
-use Rattle.tokens.specs.Algorithms.{content_alg}
 use Rattle.tokens.specs.Choosing.{RecipientKey, is_direct, is_alone, with_name, with_p2c, Given, EncryptionPlan, read_encryption}
 use Rattle.tokens.specs.Decrypting.{additional_authenticated_data, all_pairs, sealed_content, opened_by, decrypted}
 use Rattle.tokens.specs.Delivering.{drawn_for_all, Delivery, deliveries_to}
@@ -37,10 +37,10 @@ drawn_cek None n = n
 drawn_cek (Some key) n = 0
 
 abbrev pub cek_drawn : EncryptionPlan → ℕ
-cek_drawn e = drawn_cek (direct_key e.recipient_keys) (cek_len (content_alg e.encryption))
+cek_drawn e = drawn_cek (direct_key e.recipient_keys) (cek_len e.encryption)
 
 abbrev pub random_len : EncryptionPlan → ℕ
-random_len e = drawn_for_all e.recipient_keys + cek_drawn e + iv_len (content_alg e.encryption)
+random_len e = drawn_for_all e.recipient_keys + cek_drawn e + iv_len e.encryption
 
 abbrev pub for_recipients : EncryptionPlan → List ℕ → List ℕ
 for_recipients e random = take (drawn_for_all e.recipient_keys) random
@@ -98,7 +98,7 @@ recipients_by e random = map (recipient_parts_by e.given (is_alone e.recipient_k
 -- ---- the object of a plaintext (RFC 7516 section 5.1, steps 14 and 15)
 
 abbrev pub sealing_by : EncryptionPlan → List ℕ → Sealing
-sealing_by e random = sealing (content_alg e.encryption) (cek_by e random) (iv_by e random)
+sealing_by e random = sealing e.encryption (cek_by e random) (iv_by e random)
     (additional_authenticated_data (base64url (header_by e random)) e.aad)
 
 -- the sealed plaintext, if it is not too long (docs/SPECIFICATION.md "Encrypting" 7)

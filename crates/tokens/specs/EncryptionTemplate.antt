@@ -7,9 +7,10 @@ use Rattle.octets.specs.declared.refusal.Refusal.{Refusal}
 use Rattle.octets.specs.declared.refusal.Refusal.TheVariants.{Form, Header, Unsupported}
 use Rattle.octets.specs.Outcomes.{◌>>=◌, needs, if_there}
 use Rattle.octets.specs.Base64url.{decoded}
-use Rattle.keys.specs.declared.algorithm.ContentEncryptionAlg.{ContentEncryptionAlg}
-use Rattle.keys.specs.declared.algorithm.KeyManagementAlg.{KeyManagementAlg}
-use Rattle.keys.specs.Algorithms.{management_alg_of, encryption_alg_of, supported}
+use Rattle.ciphers.specs.declared.content_alg.ContentAlg.{ContentAlg}
+use Rattle.ciphers.specs.declared.key_alg.KeyAlg.{KeyAlg}
+use Rattle.ciphers.specs.Algorithms.{management_alg_of, encryption_alg_of}
+use Rattle.keys.specs.Algorithms.{supported}
 use Rattle.keys.specs.Json.{is_object, has_only}
 use Rattle.objects.specs.Headers.{header_at, joint_header, string_parameter, number_parameter}
 use Rattle.objects.specs.Jwe.{has_no_crit_or_zip}
@@ -36,8 +37,8 @@ template_texts value = do
 -- The algorithms that the headers name, if they do, and the count of iterations, if they have one. A count that is no whole number is
 -- refused later, and only for an algorithm that reads it.
 pub record AlgorithmsAsked : Type 0 where
-  pub management : Option KeyManagementAlg
-  pub encryption : Option ContentEncryptionAlg
+  pub management : Option KeyAlg
+  pub encryption : Option ContentAlg
   pub p2c : Result (Option ℕ) Refusal
 
 -- The header has no parameters that are drawn or made for a recipient, whatever the algorithm: no salt input of a password, and no

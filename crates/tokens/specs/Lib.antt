@@ -27,7 +27,5 @@ pub mod Jws
 pub mod Jwe
 -- the limits and algorithms of earlier versions
 pub mod MoreAlgorithms
--- that the rows of keys and ciphers agree
-pub mod Rows
 -- values and calls of the code; no answer rests on these pages
 pub mod Code

@@ -2,11 +2,11 @@
 -- algorithms that are known without them.
 use Rattle.std.specs.Prelude.{◌≡◌, ◌↔◌, ◌||◌, ℕ, not, is_some, true, false, Bool, List, [], ◌∷◌, ◌++◌, Option, Ok}
 use Rattle.std.specs.List.{filter, list_all}
-use Rattle.keys.specs.declared.algorithm.KeyManagementAlg.{KeyManagementAlg}
-use Rattle.keys.specs.declared.algorithm.KeyManagementAlg.TheVariants.{Dir, A128Kw, A192Kw, A256Kw, Pbes2Hs256A128Kw, Pbes2Hs384A192Kw, Pbes2Hs512A256Kw}
-use Rattle.keys.specs.declared.algorithm.KeyManagementMode.{KeyManagementMode}
-use Rattle.keys.specs.declared.algorithm.KeyManagementMode.TheVariants.{GcmKeyWrap}
-use Rattle.keys.specs.Algorithms.{management_algs, management_alg_among, mode_of}
+use Rattle.ciphers.specs.declared.key_alg.KeyAlg.{KeyAlg}
+use Rattle.ciphers.specs.declared.key_alg.KeyAlg.TheVariants.{Dir, A128Kw, A192Kw, A256Kw, Pbes2Hs256A128Kw, Pbes2Hs384A192Kw, Pbes2Hs512A256Kw}
+use Rattle.ciphers.specs.declared.key_alg.KeyManagementMode.{KeyManagementMode}
+use Rattle.ciphers.specs.declared.key_alg.KeyManagementMode.TheVariants.{GcmKeyWrap}
+use Rattle.ciphers.specs.Algorithms.{management_algs, management_alg_among, mode_of}
 use Rattle.keys.specs.Keys.{OctetKey}
 use Rattle.keys.specs.Limits.{Limits}
 use Rattle.objects.specs.Jwe.{EncryptedObject, jwe_of}
@@ -31,7 +31,7 @@ earlier_limits = record {
 }
 
 -- the algorithms
-abbrev pub earlier_management_algs : List KeyManagementAlg
+abbrev pub earlier_management_algs : List KeyAlg
 earlier_management_algs = Dir ∷ A128Kw ∷ A192Kw ∷ A256Kw ∷ Pbes2Hs256A128Kw ∷ Pbes2Hs384A192Kw ∷ Pbes2Hs512A256Kw ∷ []
 
 -- those that came with 2.0.0: key wrap by AES in GCM (RFC 7518 section 4.7)
@@ -39,29 +39,29 @@ abbrev pub is_gcm_key_wrap : KeyManagementMode → Bool
 is_gcm_key_wrap GcmKeyWrap = true
 is_gcm_key_wrap mode = false
 
-abbrev pub gcm_management_algs : List KeyManagementAlg
+abbrev pub gcm_management_algs : List KeyAlg
 gcm_management_algs = filter (λ alg. is_gcm_key_wrap (mode_of alg)) management_algs
 
 -- ---- what more algorithms leave as it is (docs/SPECIFICATION.md "Objects" 3)
 
 -- the same limits, with these algorithms
-abbrev pub knowing : Limits → List KeyManagementAlg → Limits
+abbrev pub knowing : Limits → List KeyAlg → Limits
 knowing limits algs = record limits { management = algs }
 
 -- a name of an algorithm among those that were known, or of none of the further ones
-abbrev pub needs_no_more : List KeyManagementAlg → List KeyManagementAlg → List ℕ → Bool
+abbrev pub needs_no_more : List KeyAlg → List KeyAlg → List ℕ → Bool
 needs_no_more known further name = is_some (management_alg_among known name) || not (is_some (management_alg_among further name))
 
 -- the objects that name such algorithms alone
-abbrev pub NeedsNoMore : List KeyManagementAlg → List KeyManagementAlg → EncryptedObject → Type 0
+abbrev pub NeedsNoMore : List KeyAlg → List KeyAlg → EncryptedObject → Type 0
 NeedsNoMore known further o = list_all (λ r. needs_no_more known further r.alg) o.recipients ≡ true
 
-abbrev pub NeedsNoMoreSigned : List KeyManagementAlg → List KeyManagementAlg → SignedObject → Type 0
+abbrev pub NeedsNoMoreSigned : List KeyAlg → List KeyAlg → SignedObject → Type 0
 NeedsNoMoreSigned known further o = list_all (λ s. needs_no_more known further s.alg) o.signatures ≡ true
 
 -- They are read of the same texts, and the encrypted ones are decrypted by the same keys to the same plaintexts, or with the same refusals,
 -- whether the further algorithms are known or not.
-pub record OpensAlike (limits : Limits) (known further : List KeyManagementAlg) : Type 0 where
+pub record OpensAlike (limits : Limits) (known further : List KeyAlg) : Type 0 where
   pub read : (detached : Option (List ℕ)) (text : List ℕ) (o : EncryptedObject) → NeedsNoMore known further o
       → (jwe_of (knowing limits (known ++ further)) detached text ≡ Ok o) ↔ (jwe_of (knowing limits known) detached text ≡ Ok o)
   pub opens : (keys : List OctetKey) (o : EncryptedObject) → NeedsNoMore known further o

@@ -2,17 +2,9 @@
 use Rattle.std.specs.Prelude.{ℕ, List, ◌∷◌, ◌++◌}
 use Rattle.std.specs.Str.{byte}
 use Rattle.octets.specs.Base64url.{base64url}
-use Rattle.prf.specs.HashFunction.{HashFunction}
 use Rattle.prf.specs.Hmac.{hmac}
-use Rattle.prf.specs.Sha2.{sha256_function, sha384_function, sha512_function}
 use Rattle.keys.specs.declared.algorithm.SignatureAlg.{SignatureAlg}
-use Rattle.keys.specs.declared.algorithm.SignatureAlg.TheVariants.{Hs256, Hs384, Hs512}
-
--- the hash of the HMAC (RFC 7518 section 3.2)
-abbrev pub signature_hash : SignatureAlg → HashFunction
-signature_hash Hs256 = sha256_function
-signature_hash Hs384 = sha384_function
-signature_hash Hs512 = sha512_function
+use Rattle.keys.specs.Algorithms.{signature_hash}
 
 -- the text of the protected header, a dot, and the base64url text of the payload (RFC 7515 section 5.1, step 5)
 abbrev pub signing_input : List ℕ → List ℕ → List ℕ

@@ -5,9 +5,9 @@ use Rattle.std.specs.Str.{bytes_eq}
 use Rattle.prf.specs.HashFunction.{HashFunction}
 use Rattle.prf.specs.Hmac.{key_block}
 use Rattle.keys.specs.declared.algorithm.SignatureAlg.{SignatureAlg}
-use Rattle.keys.specs.Algorithms.{signature_algs}
+use Rattle.keys.specs.Algorithms.{signature_algs, signature_hash}
 use Rattle.keys.specs.Keys.{OctetKey}
-use Rattle.tokens.specs.Signatures.{signature_hash, signature_of}
+use Rattle.tokens.specs.Signatures.{signature_of}
 
 -- no two of the lists are the same (docs/SPECIFICATION.md "Calls for C" 7)
 abbrev pub are_distinct : List (List ℕ) → Bool

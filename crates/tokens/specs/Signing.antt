@@ -12,7 +12,7 @@ use Rattle.keys.specs.declared.algorithm.Algorithm.TheVariants.{Signature}
 use Rattle.keys.specs.declared.algorithm.SignatureAlg.{SignatureAlg}
 use Rattle.keys.specs.declared.algorithm.SignatureAlg.TheVariants.{Hs256, Hs384, Hs512}
 use Rattle.keys.specs.declared.operation.Operation.TheVariants.{Sign}
-use Rattle.keys.specs.Algorithms.{signature_key_len, signature_alg_of}
+use Rattle.keys.specs.Algorithms.{hash_len, signature_alg_of}
 use Rattle.keys.specs.Json.{json_value}
 use Rattle.keys.specs.Limits.{Limits, limits, are_few}
 use Rattle.keys.specs.Keys.{OctetKey, allows, fits}
@@ -25,7 +25,7 @@ use Rattle.tokens.specs.Signatures.{signature_of}
 
 -- the one with the longest hash that a key of n octets is long enough for
 abbrev pub alg_by_length : ℕ → Option SignatureAlg
-alg_by_length n = find (λ alg. nat_le (signature_key_len alg) n) (Hs512 ∷ Hs384 ∷ Hs256 ∷ [])
+alg_by_length n = find (λ alg. nat_le (hash_len alg) n) (Hs512 ∷ Hs384 ∷ Hs256 ∷ [])
 
 -- the one that its `alg` names, or the one that its length implies
 abbrev pub alg_of_key : Option (List ℕ) → ℕ → Result SignatureAlg Refusal

@@ -1,16 +1,18 @@
 //! Decrypting with any key of a set (RFC 7516 section 5.2).
-ghost use Rattle.std.specs.Prelude.{◌≡◌, ◌≢◌, ◌+◌, ◌≤◌, ◌*◌, [], ◌∷◌, true, length, take, map, option_map, None, OnOk, OnErr, IfOk, IfErr, IfNone};
+ghost use Rattle.std.specs.Prelude.{◌≡◌, ◌≢◌, ◌+◌, ◌≤◌, ◌*◌, [], ◌∷◌, true, length, take, map, option_map, None, OnOk, OnErr, IfErr, IfNone};
 ghost use Rattle.std.specs.Result.{result_unwrap_or};
 ghost use Rattle.octets.specs.Devices.{appended, AppendsPrefixOf, IsFinishedOnce};
 ghost use Rattle.octets.specs.Faults.{TellsFaults, counts};
 ghost use Rattle.octets.specs.Outcomes.{AgreesUnlessExternal};
 ghost use Rattle.octets.specs.Code.Results.{AgreesUnlessMemory};
+ghost use Rattle.keys.specs.declared.algorithm.Algorithm.TheVariants.{Encryption};
+ghost use Rattle.keys.specs.Keys.{fits};
 ghost use Rattle.keys.specs.Code.Views.{key_view};
 ghost use Rattle.keys.specs.Limits.{limits};
 ghost use Rattle.objects.specs.Code.Views.{jwe_view, recipient_view};
 ghost use Rattle.tokens.specs.Decrypting.{with_iterations, decrypted, pairs_to_try, pairs_with, iterations_of, first_opened, opened_by, cek_of};
-ghost use Rattle.tokens.specs.Code.Trying.{IsSaltFor, with_ciphertext};
-ghost use Rattle.tokens.specs.Code.Work.{no_work, plus, with_pair, work_told, IsBounded};
+ghost use Rattle.tokens.specs.Code.Trying.{IsSaltFor, pair_if_candidate, with_ciphertext, within_after};
+ghost use Rattle.tokens.specs.Code.Work.{no_work, plus, with_pairs, work_told, IsBounded};
 ghost use Rattle.tokens.specs.Code.Views.{algorithms_view, pair_view, sealed_with_view, work_view};
 
 mod pair;
@@ -20,9 +22,9 @@ mod salted;
 mod tried;
 
 use crate::aad::additional_authenticated_data;
-use crate::algorithms::{Algorithms, content_alg, key_alg, parameters, unwraps};
+use crate::algorithms::{Algorithms, parameters, unwraps};
 use crate::decrypt::pair::Pair;
-use crate::decrypt::pairs::judge_pairs;
+use crate::decrypt::pairs::{is_candidate, judge_pairs};
 use crate::decrypt::recipients::open_recipients;
 use crate::decrypt::salted::SaltedKeys;
 use crate::decrypt::tried::was_tried;
@@ -127,33 +129,11 @@ pub fn jwe_decrypt_within<O: Output>(
     ensures bound { IsBounded (work_view result.0) }
 {
     let mut work = NO_WORK;
-    let result = decrypt(alloc, keys, jwe, most_iterations, &mut work, out);
+    let result = match open_first(alloc, keys, jwe, most_iterations, &mut work) {
+        Err(refusal) => Err(refusal),
+        Ok(plaintext) => emit(out, &plaintext),
+    };
     (work, result)
-}
-
-fn decrypt<O: Output>(
-    alloc: Global,
-    keys: &KeySet,
-    jwe: Jwe,
-    most_iterations: u64,
-    work: &mut Work,
-    out: &mut O,
-) -> Result<(), Refusal>
-    requires { work_view work.old ≡ no_work }
-    ensures answer { AgreesUnlessExternal (decrypted (with_iterations most_iterations limits) keys.now (jwe_view jwe))
-        (appended (O.written out.old) (O.written out.new)) result }
-    ensures held_back { IfErr result (λ refusal. refusal ≢ Refusal.Write → out.new ≡ out.old) }
-    ensures beginning { OnErr result (AppendsPrefixOf (result_unwrap_or (decrypted (with_iterations most_iterations limits) keys.now (jwe_view jwe)) [])
-        (O.written out.old) (O.written out.new)) }
-    ensures finished { OnOk result (IsFinishedOnce O.is_finished O.endings out.old out.new) }
-    ensures unfinished { OnErr result (O.endings out.new ≡ O.endings out.old) }
-    ensures faults { TellsFaults [] (counts O.failures out.old out.new ∷ []) result }
-    ensures work { work_view work.new
-        ≡ work_told (jwe_view jwe) (pairs_to_try (with_iterations most_iterations limits) keys.now (jwe_view jwe).recipients) result }
-    ensures bound { IsBounded (work_view work.new) }
-{
-    let plaintext = open_first(alloc, keys, jwe, most_iterations, work)?;
-    emit(out, &plaintext)
 }
 
 /// The plaintext of the first pair that opens.
@@ -205,12 +185,13 @@ fn open_in_place<'x>(
         aad: aad.as_bytes(),
         tag: jwe.tag(),
     };
-    let opened = open_recipients(keys, jwe.recipients(), &mut salted, sealed, octets, work);
+    let opened = open_recipients(jwe.recipients(), &mut salted, sealed, octets, work);
     opened.ok_or(Refusal::NotOpened)
 }
 
-/// Opens the ciphertext by a pair, after those of the recipient and the keys before. If one of these is the same, the content is not tried
-/// again. If the pair does not open it, the octets are unchanged.
+/// Opens the ciphertext by a pair, if its key may decrypt by the recipient's algorithms and fits. The pairs of the recipient and the keys
+/// before opened nothing. If one of these keys is the same, the content is not tried again. If the pair does not open it, the octets are
+/// unchanged.
 #[tactic(auto, unfolding(crate::specs::Decrypting::opened_by))]
 fn open_pair(
     pair: &Pair<'_>,
@@ -221,17 +202,20 @@ fn open_pair(
     work: &mut Work,
 ) -> Option<usize>
     requires bound { IsBounded (work_view work.old) }
-    requires counted { iterations_of (pair_view pair.now) ≤ limits.greatest_p2c_read }
+    requires counted { within_after work.old.iterations (pair_if_candidate (pair_view pair.now)) ≡ true }
     requires key { salted.old.key ≡ (key_view pair.now.key.now).octets }
     requires salt { IsSaltFor salted.old.p2s (recipient_view pair.now.recipient.now).management }
     requires tried { first_opened (sealed_with_view sealed octets.old)
         (pairs_with (recipient_view pair.now.recipient.now) (algorithms_view pair.now.algorithms) (map key_view before.now)) ≡ None }
-    ensures opened { option_map (λ n. take n octets.new) result ≡ opened_by (sealed_with_view sealed.entry octets.old) (pair_view pair.now) }
+    ensures opened { option_map (λ n. take n octets.new) result
+        ≡ first_opened (sealed_with_view sealed.entry octets.old) (pair_if_candidate (pair_view pair.now)) }
     ensures unchanged { IfNone result (octets.new ≡ octets.old) }
     ensures same { salted.new ≡ salted.old }
-    ensures work { work_view work.new ≡ with_pair (work_view work.old) (pair_view pair.now) }
+    ensures work { work_view work.new ≡ with_pairs (sealed_with_view sealed.entry octets.old) (work_view work.old) (pair_if_candidate (pair_view pair.now)) }
 {
-    let enc = content_alg(pair.algorithms.encryption);
+    if !is_candidate(pair.algorithms, pair.key) {
+        return None;
+    }
     work.unwraps += unwraps(pair.algorithms.management);
     let (cek, iterations) = deliver(pair, salted);
     work.iterations += iterations;
@@ -244,12 +228,14 @@ fn open_pair(
     opens_exactly();
     are_octets(cek);
     are_octets(sealed.iv);
+    let enc = pair.algorithms.encryption;
     enc.open(cek, sealed.iv, sealed.aad, octets, sealed.tag)
 }
 
 /// The content encryption key that a pair delivers, and the number of iterations of PBKDF2 for it.
 #[tactic(auto, unfolding(crate::specs::Decrypting::cek_of), using(crate::proofs::AlgorithmCases::is_key_of, crate::proofs::AlgorithmCases::counts, crate::proofs::AlgorithmCases::salts, crate::proofs::AlgorithmCases::iterations_made))]
 fn deliver(pair: &Pair<'_>, salted: &mut SaltedKey<'_>) -> (Option<Cek>, u64)
+    requires fits { fits (key_view pair.now.key.now) (Encryption pair.now.algorithms.management pair.now.algorithms.encryption) ≡ true }
     requires counted { iterations_of (pair_view pair.now) ≤ limits.greatest_p2c_read }
     requires key { salted.old.key ≡ (key_view pair.now.key.now).octets }
     requires salt { IsSaltFor salted.old.p2s (recipient_view pair.now.recipient.now).management }
@@ -264,8 +250,8 @@ fn deliver(pair: &Pair<'_>, salted: &mut SaltedKey<'_>) -> (Option<Cek>, u64)
     let parameters = parameters(pair.recipient.management());
     delivers_exactly();
     are_octets(pair.key.octets());
-    key_alg(management).unwrap_cek_salted(
-        content_alg(encryption),
+    management.unwrap_cek_salted(
+        encryption,
         salted,
         parameters,
         pair.recipient.encrypted_key(),

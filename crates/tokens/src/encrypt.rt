@@ -1,5 +1,5 @@
 //! Encrypting to each key of a set (RFC 7516 section 5.1), in compact or in JSON form.
-ghost use Rattle.std.specs.Prelude.{◌≡◌, ◌≢◌, ◌⊎◌, ◌≤◌, ◌<◌, ◌*◌, ◌++◌, ℕ, if◌then◌else◌, IsOk, IsErr, true, false, not, List, [], ◌∷◌, length, map, is_some, Ok, Err, option_map, IfOk, IfErr, OnOk, OnErr, IsTrue, string_bytes};
+ghost use Rattle.std.specs.Prelude.{◌≡◌, ◌≤◌, ◌<◌, ◌*◌, ℕ, if◌then◌else◌, IsOk, IsErr, true, false, not, List, [], ◌∷◌, length, map, is_some, Ok, Err, option_map, IfOk, IfErr, OnOk, string_bytes};
 ghost use Rattle.std.specs.Iterator.{IsFinite};
 ghost use Rattle.std.specs.Option.{unwrap_or};
 ghost use Rattle.octets.specs.Base64url.{base64url};
@@ -14,8 +14,6 @@ ghost use Rattle.octets.specs.declared.refusal.Refusal.{Refusal};
 ghost use Rattle.ciphers.specs.Sealing.{cek_len};
 ghost use Rattle.keys.specs.Keys.{fits};
 ghost use Rattle.keys.specs.Limits.{limits};
-ghost use Rattle.objects.specs.Code.Frames.{filled};
-ghost use Rattle.tokens.specs.Algorithms.{content_alg as content_alg_of};
 ghost use Rattle.tokens.specs.Encrypting.{enc_plan, sealing_by, random_len, direct_key, cek_drawn, cek_by};
 ghost use Rattle.tokens.specs.Code.SealedTexts.{IsUnsealed, frame_by};
 ghost use Rattle.tokens.specs.Code.Views.{recipient_key_view, encryption_plan_view};
@@ -29,7 +27,6 @@ mod settle;
 mod template;
 
 use crate::aad::additional_authenticated_data;
-use crate::algorithms::content_alg;
 use crate::encrypt::ciphertext::{Ciphertext, EncodedCiphertext};
 use crate::encrypt::deliver::{SALT_LEN, deliver_to_all, drawn_for_all};
 use crate::encrypt::plan::EncryptionPlan;
@@ -172,7 +169,7 @@ fn begin_sealing(
     ensures framed { IfOk result (λ made. frame_by limits compact detach (encryption_plan_view encryption.entry) random.now
         ≡ Ok (map string_bytes made.texts.items)) }
     ensures cek { IfOk result (λ made. IsOctets (cek_by (encryption_plan_view encryption.entry) random.now)
-        × (length (cek_by (encryption_plan_view encryption.entry) random.now) ≡ cek_len (content_alg_of (encryption_plan_view encryption.entry).encryption))) }
+        × (length (cek_by (encryption_plan_view encryption.entry) random.now) ≡ cek_len (encryption_plan_view encryption.entry).encryption)) }
     ensures memory { IfErr result (λ e. e ≡ Refusal.Memory) }
 {
     let (for_recipients, random) = random.split_at(drawn_for_all(&encryption.recipient_keys));
@@ -180,7 +177,7 @@ fn begin_sealing(
     let cek = content_key(&encryption, for_cek);
     are_octets(cek.octets());
     let deliveries = deliver_to_all(alloc, &encryption, for_recipients, &cek)?;
-    let alg = content_alg(encryption.encryption);
+    let alg = encryption.encryption;
     let EncryptionPlan {
         recipient_keys,
         given,
@@ -220,7 +217,7 @@ fn random_len(encryption: &EncryptionPlan<'_>) -> usize
     ensures bound { result ≤ MOST_DRAWN }
 {
     let for_recipients = drawn_for_all(&encryption.recipient_keys);
-    for_recipients + cek_drawn(encryption) + content_alg(encryption.encryption).iv_len()
+    for_recipients + cek_drawn(encryption) + encryption.encryption.iv_len()
 }
 
 /// How many octets are drawn for the content encryption key.
@@ -230,7 +227,7 @@ fn cek_drawn(encryption: &EncryptionPlan<'_>) -> usize
 {
     match direct_key(&encryption.recipient_keys) {
         Some(_) => 0,
-        None => content_alg(encryption.encryption).cek_len(),
+        None => encryption.encryption.cek_len(),
     }
 }
 
@@ -250,7 +247,7 @@ fn direct_key<'k>(recipient_keys: &[RecipientKey<'k>]) -> Option<&'k [u8]>
 fn content_key(encryption: &EncryptionPlan<'_>, drawn: &[u8]) -> Cek
     requires { length drawn.now ≡ cek_drawn (encryption_plan_view encryption.now) }
     ensures cek { result ≡ unwrap_or (direct_key (encryption_plan_view encryption.now).recipient_keys) drawn.now }
-    ensures fits { length result ≡ cek_len (content_alg_of (encryption_plan_view encryption.now).encryption) }
+    ensures fits { length result ≡ cek_len (encryption_plan_view encryption.now).encryption }
 {
     match direct_key(&encryption.recipient_keys) {
         Some(key) => Cek::new(key),

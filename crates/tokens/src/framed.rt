@@ -1,6 +1,6 @@
 //! A content that is written as it is read, inside the texts of an object's frame or apart from them, and the values that follow it in
 //! their places: the signatures, or the tag.
-ghost use Rattle.std.specs.Prelude.{◌≡◌, ◌≢◌, ◌⊎◌, ◌+◌, ◌++◌, ℕ, List, [], ◌∷◌, true, false, length, map, string_bytes, Some, None, Ok, Err, IfErr, IsTrue, OnOk, OnErr};
+ghost use Rattle.std.specs.Prelude.{◌≡◌, ◌≢◌, ◌+◌, ◌++◌, ℕ, List, [], ◌∷◌, true, false, length, map, string_bytes, Some, None, Ok, Err, IfErr, OnOk, OnErr};
 ghost use Rattle.std.specs.Iterator.{IsFinite};
 ghost use Rattle.octets.specs.Devices.{AppendsPrefixOf, IsFinishedOnce, input_members, output_members};
 ghost use Rattle.octets.specs.Faults.{TellsFaults, counts};

@@ -1,15 +1,10 @@
 //! Laws of the definitions, as contracts of functions that do nothing.
 ghost use Rattle.std.specs.Prelude.{◌≡◌, ◌++◌, List};
-ghost use Rattle.keys.specs.declared.algorithm.KeyManagementAlg.{KeyManagementAlg};
-ghost use Rattle.keys.specs.declared.algorithm.ContentEncryptionAlg.{ContentEncryptionAlg};
-ghost use Rattle.keys.specs.Algorithms.{cek_len};
+ghost use Rattle.ciphers.specs.declared.key_alg.KeyAlg.{KeyAlg};
 ghost use Rattle.keys.specs.Limits.{Limits, limits};
-ghost use Rattle.ciphers.specs.Sealing as ciphers;
-ghost use Rattle.tokens.specs.Algorithms.{content_alg};
 ghost use Rattle.tokens.specs.Decrypting.{FewerIterationsRefuse};
 ghost use Rattle.tokens.specs.Encrypting.{AreSound, EncryptedDecrypts, EncryptingGrows, EncryptingMakesTexts};
 ghost use Rattle.tokens.specs.MoreAlgorithms.{earlier_limits, earlier_management_algs, gcm_management_algs, knowing, OpensAlike};
-ghost use Rattle.tokens.specs.Rows.{HasOneRow};
 ghost use Rattle.tokens.specs.Signers.{AlikeKeysSignAlike};
 ghost use Rattle.tokens.specs.Signing.{SigningGrows, SigningMakesTexts};
 ghost use Rattle.tokens.specs.Verifying.{SignedVerifies};
@@ -80,16 +75,9 @@ pub fn fewer_iterations_only_refuse()
 /// those of algorithms that were known before, or of none of the further ones. So it is when the three of AES-GCM key wrap are added to the
 /// earlier ones, which together are the algorithms of the limits.
 pub fn more_algorithms_open_alike()
-    ensures all { (limits : Limits) (known further : List KeyManagementAlg) → OpensAlike limits known further }
+    ensures all { (limits : Limits) (known further : List KeyAlg) → OpensAlike limits known further }
     ensures gcm { OpensAlike limits earlier_management_algs gcm_management_algs
         × (knowing limits (earlier_management_algs ++ gcm_management_algs) ≡ limits) }
     ensures earlier { OpensAlike earlier_limits earlier_management_algs gcm_management_algs
         × (knowing earlier_limits (earlier_management_algs ++ gcm_management_algs) ≡ earlier_limits) }
-{}
-
-/// `keys` and `ciphers` describe each algorithm alike: an algorithm of key management has one mode, one key length and one name, and an
-/// algorithm of content encryption has one key length.
-pub fn rows_are_one()
-    ensures management { (alg : KeyManagementAlg) → HasOneRow alg }
-    ensures encryption { (enc : ContentEncryptionAlg) → cek_len enc ≡ ciphers.cek_len (content_alg enc) }
 {}

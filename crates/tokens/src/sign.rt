@@ -1,5 +1,5 @@
 //! Signing with each key of a set (RFC 7515 section 5.1), in compact or in JSON form.
-ghost use Rattle.std.specs.Prelude.{◌≡◌, ◌≢◌, ◌⊎◌, ◌+◌, ◌++◌, ℕ, List, [], ◌∷◌, true, false, length, is_some, Ok, Err, IfOk, IfErr, IsTrue, OnOk, OnErr, map, string_bytes};
+ghost use Rattle.std.specs.Prelude.{◌≡◌, ℕ, List, [], ◌∷◌, true, false, is_some, Ok, Err, IfOk, IfErr, map, string_bytes};
 ghost use Rattle.std.specs.Iterator.{IsFinite};
 ghost use Rattle.serde_json.specs.View.{members_view};
 ghost use Rattle.octets.specs.Faults.{TellsFaults, counts};
@@ -7,15 +7,14 @@ ghost use Rattle.octets.specs.Code.Lent.{lent, counts_of};
 ghost use Rattle.octets.specs.Code.Streaming.{Streams};
 ghost use Rattle.octets.specs.Devices.{input_members, output_members};
 ghost use Rattle.octets.specs.Outcomes.{is_external};
-ghost use Rattle.octets.specs.Code.Results.{AgreesUnlessMemory, is_memory};
+ghost use Rattle.octets.specs.Code.Results.{is_memory};
 ghost use Rattle.octets.specs.Plan.{planned};
 ghost use Rattle.octets.specs.declared.refusal.Refusal.{Refusal};
 ghost use Rattle.keys.specs.Limits.{limits};
-ghost use Rattle.objects.specs.Code.Frames.{filled};
 ghost use Rattle.objects.specs.Texts.{each};
-ghost use Rattle.objects.specs.Code.Views.{jws_view, signature_parts_view};
+ghost use Rattle.objects.specs.Code.Views.{jws_view, made_signature_view};
 ghost use Rattle.tokens.specs.Signing.{sig_plan, protected_by};
-ghost use Rattle.tokens.specs.Code.SigningInputs.{InputStart, HoldEach, IsFramed, signature_text, start_of, unsigned_protected, unsigned_part_by, unsigned_by};
+ghost use Rattle.tokens.specs.Code.SigningInputs.{HoldEach, IsFramed, start_of, unsigned_protected, unsigned_by, unsigned_signature, unsigned_object};
 ghost use Rattle.tokens.specs.Code.Views.{signer_view, signing_view};
 
 mod payload;
@@ -30,7 +29,8 @@ use crate::sign::settle::{Signing, read_signing};
 use crate::sign::signer::Signer;
 use crate::signing_input::{HmacInput, SigningInput};
 use keys::KeySet;
-use objects::{Jws, JwsParts, SignatureParts, copy_header};
+use keys::laws::are_octet_keys;
+use objects::{Jws, MadeSignature, SignatureParts, copy_header};
 use octets::{Input, Output, Refusal, b64_encode};
 use std::alloc::Global;
 
@@ -97,6 +97,7 @@ fn prepare(
         × ((payload : List ℕ) → planned (sig_plan limits compact detach keys.now template.now) payload ≡ Err e)) }
 {
     let signing = read_signing(alloc, keys, template, compact)?;
+    are_octet_keys(keys);
     let jws = unsigned(alloc, &signing)?;
     let texts = jws.frame(alloc, compact, detach)?;
     let inputs = signing_inputs(alloc, &signing.signers, &jws)?;
@@ -105,34 +106,34 @@ fn prepare(
 
 /// The object of what is signed, without a payload and with empty signatures.
 fn unsigned(alloc: Global, signing: &Signing<'_>) -> Result<Jws<'static>, Refusal>
-    ensures { AgreesUnlessMemory jws_view result (unsigned_by limits (signing_view signing.now)) }
+    requires { unsigned_by limits (signing_view signing.now) ≡ Ok (unsigned_object (signing_view signing.now)) }
+    ensures object { IfOk result (λ jws. unsigned_by limits (signing_view signing.now) ≡ Ok (jws_view jws)) }
+    ensures memory { IfErr result (λ e. e ≡ Refusal.Memory) }
 {
-    let signatures = unsigned_parts(alloc, signing)?;
-    Jws::build(
-        alloc,
-        JwsParts {
-            payload: Vec::new(alloc),
-            signatures,
-        },
-    )
+    let signatures = unsigned_signatures(alloc, signing)?;
+    Jws::made(alloc, Vec::new(alloc), signatures)
 }
 
 /// What is known of each signature before the payload is known.
-fn unsigned_parts(alloc: Global, signing: &Signing<'_>) -> Result<Vec<SignatureParts>, Refusal>
-    ensures parts { IfOk result (λ parts. map signature_parts_view parts.items
-        ≡ map (unsigned_part_by (members_view signing.now.header.entries)) (map signer_view signing.now.signers.items)) }
+fn unsigned_signatures(alloc: Global, signing: &Signing<'_>) -> Result<Vec<MadeSignature>, Refusal>
+    ensures signatures { IfOk result (λ made. map made_signature_view made.items
+        ≡ map (unsigned_signature (members_view signing.now.header.entries)) (map signer_view signing.now.signers.items)) }
     ensures memory { IfErr result (λ e. e ≡ Refusal.Memory) }
 {
-    let mut parts = Vec::new(alloc);
+    let mut signatures = Vec::new(alloc);
     for signer in &signing.signers {
         let text = header_text(alloc, copy_header(alloc, Some(&signer.protected))?)?;
-        parts.push(SignatureParts {
-            protected: b64_encode(alloc, text.as_bytes())?,
-            header: copy_header(alloc, Some(&signing.header))?,
-            signature: Vec::new(alloc),
+        signatures.push(MadeSignature {
+            parts: SignatureParts {
+                protected: b64_encode(alloc, text.as_bytes())?,
+                header: copy_header(alloc, Some(&signing.header))?,
+                signature: Vec::new(alloc),
+            },
+            protected_members: copy_header(alloc, Some(&signer.protected))?,
+            alg: signer.alg,
         })?;
     }
-    Ok(parts)
+    Ok(signatures)
 }
 
 /// The signing input of each signer, which was fed the text before that of the payload.

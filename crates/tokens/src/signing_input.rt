@@ -1,5 +1,5 @@
 //! The signing input of a payload that comes in pieces, and its signature (RFC 7515 section 5.1).
-ghost use Rattle.std.specs.Prelude.{◌≡◌, ◌++◌, ℕ, List, ◌∷◌, [], length, map, codes, Err, OnOk, OnErr, IsTrue};
+ghost use Rattle.std.specs.Prelude.{◌≡◌, ◌++◌, ℕ, List, ◌∷◌, [], length, codes, Err, OnOk, OnErr, IsTrue};
 ghost use Rattle.std.specs.Iterator.{IsFinite};
 ghost use Rattle.octets.specs.Base64url.{base64url};
 ghost use Rattle.octets.specs.Devices.{appended};
@@ -8,7 +8,8 @@ ghost use Rattle.objects.specs.Code.Views.{held_view};
 ghost use Rattle.prf.specs.HashFunction.{HashFunction};
 ghost use Rattle.prf.specs.Hmac.{hmac};
 ghost use Rattle.prf.specs.Code.Views.{HoldsHmac};
-ghost use Rattle.tokens.specs.Signatures.{signature_hash, signing_input};
+ghost use Rattle.keys.specs.Algorithms.{signature_hash};
+ghost use Rattle.tokens.specs.Signatures.{signing_input};
 ghost use Rattle.tokens.specs.Code.SigningInputs.{InputStart, HoldEach};
 
 use crate::mac::Mac;

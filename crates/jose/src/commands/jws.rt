@@ -1,5 +1,5 @@
 //! The commands `jws sig`, `jws ver` and `jws fmt`, from devices to devices.
-ghost use Rattle.std.specs.Prelude.{◌≡◌, Bool, true, false, ◌&&◌, ℕ, List, [], ◌∷◌, option_map, Some, Err, OnOk, IfOk, IfErr, IsTrue, string_bytes};
+ghost use Rattle.std.specs.Prelude.{◌≡◌, Bool, true, false, ◌&&◌, ℕ, List, [], ◌∷◌, option_map, Some, Err, IfOk, IfErr, IsTrue, string_bytes};
 ghost use Rattle.std.specs.Iterator.{IsFinite};
 ghost use Rattle.octets.specs.Devices.{observed, IsPossibleInput, input_members, output_members};
 ghost use Rattle.octets.specs.declared.refusal.Refusal.{Refusal};

@@ -1,7 +1,8 @@
 //! RFC 7517, JSON Web Key: what `use`, `key_ops` and `alg` allow (sections 4.2 to 4.4), row by row with values written from the standard.
 use crate::tests::expect_same;
 use crate::tests::rfc7518::{fits, key_of};
-use crate::{Algorithm, ContentEncryptionAlg, KeyManagementAlg, Operation, SignatureAlg};
+use crate::{Algorithm, Operation, SignatureAlg};
+use ciphers::{ContentAlg, KeyAlg};
 use std::process::Abort;
 
 /// Whether a key of one octet with these members allows the operation.
@@ -88,39 +89,39 @@ fn the_alg_of_a_key_names_no_other_signature(rt: HostRuntime) {
     }
 }
 
-const WRAPPING: &[(KeyManagementAlg, usize, &str)] = &[
-    (KeyManagementAlg::A128Kw, 16, "A128KW"),
-    (KeyManagementAlg::A192Kw, 24, "A192KW"),
-    (KeyManagementAlg::A256Kw, 32, "A256KW"),
-    (KeyManagementAlg::Pbes2Hs256A128Kw, 9, "PBES2-HS256+A128KW"),
-    (KeyManagementAlg::Pbes2Hs384A192Kw, 9, "PBES2-HS384+A192KW"),
-    (KeyManagementAlg::Pbes2Hs512A256Kw, 9, "PBES2-HS512+A256KW"),
-    (KeyManagementAlg::A128GcmKw, 16, "A128GCMKW"),
-    (KeyManagementAlg::A192GcmKw, 24, "A192GCMKW"),
-    (KeyManagementAlg::A256GcmKw, 32, "A256GCMKW"),
+const WRAPPING: &[(KeyAlg, usize, &str)] = &[
+    (KeyAlg::A128Kw, 16, "A128KW"),
+    (KeyAlg::A192Kw, 24, "A192KW"),
+    (KeyAlg::A256Kw, 32, "A256KW"),
+    (KeyAlg::Pbes2Hs256A128Kw, 9, "PBES2-HS256+A128KW"),
+    (KeyAlg::Pbes2Hs384A192Kw, 9, "PBES2-HS384+A192KW"),
+    (KeyAlg::Pbes2Hs512A256Kw, 9, "PBES2-HS512+A256KW"),
+    (KeyAlg::A128GcmKw, 16, "A128GCMKW"),
+    (KeyAlg::A192GcmKw, 24, "A192GCMKW"),
+    (KeyAlg::A256GcmKw, 32, "A256GCMKW"),
 ];
 
 #[test]
 fn the_alg_of_a_key_names_no_other_wrapping(rt: HostRuntime) {
     for &(alg, len, name) in WRAPPING {
-        let algorithm = Algorithm::Encryption(alg, ContentEncryptionAlg::A256Gcm);
+        let algorithm = Algorithm::Encryption(alg, ContentAlg::A256Gcm);
         expect_names(&rt, algorithm, len, name, name);
     }
 }
 
-const DIRECT: &[(ContentEncryptionAlg, usize, &str)] = &[
-    (ContentEncryptionAlg::A128CbcHs256, 32, "A128CBC-HS256"),
-    (ContentEncryptionAlg::A192CbcHs384, 48, "A192CBC-HS384"),
-    (ContentEncryptionAlg::A256CbcHs512, 64, "A256CBC-HS512"),
-    (ContentEncryptionAlg::A128Gcm, 16, "A128GCM"),
-    (ContentEncryptionAlg::A192Gcm, 24, "A192GCM"),
-    (ContentEncryptionAlg::A256Gcm, 32, "A256GCM"),
+const DIRECT: &[(ContentAlg, usize, &str)] = &[
+    (ContentAlg::A128CbcHs256, 32, "A128CBC-HS256"),
+    (ContentAlg::A192CbcHs384, 48, "A192CBC-HS384"),
+    (ContentAlg::A256CbcHs512, 64, "A256CBC-HS512"),
+    (ContentAlg::A128Gcm, 16, "A128GCM"),
+    (ContentAlg::A192Gcm, 24, "A192GCM"),
+    (ContentAlg::A256Gcm, 32, "A256GCM"),
 ];
 
 #[test]
 fn the_alg_of_a_direct_key_names_dir_or_the_content_encryption(rt: HostRuntime) {
     for &(enc, len, name) in DIRECT {
-        let algorithm = Algorithm::Encryption(KeyManagementAlg::Dir, enc);
+        let algorithm = Algorithm::Encryption(KeyAlg::Dir, enc);
         expect_names(&rt, algorithm, len, "dir", name);
     }
 }

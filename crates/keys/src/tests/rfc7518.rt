@@ -1,7 +1,8 @@
-//! RFC 7518, JSON Web Algorithms: the names of the algorithms and the lengths of their keys (sections 3.1, 4.1 and 5.1), row by row with
-//! values written from the standard. Its appendix B is in crate `ciphers`.
+//! RFC 7518, JSON Web Algorithms: the names of the signature algorithms (section 3.1) and the lengths of all keys, row by row with values
+//! written from the standard. The other names and appendix B are in crate `ciphers`.
 use crate::tests::expect_same;
-use crate::{Algorithm, ContentEncryptionAlg, KeyManagementAlg, KeySet, SignatureAlg};
+use crate::{Algorithm, KeySet, SignatureAlg};
+use ciphers::{ContentAlg, KeyAlg};
 use octets::{Refusal, b64_append};
 use std::alloc::Global;
 use std::process::Abort;
@@ -12,55 +13,13 @@ const SIGNATURE_ALGS: &[(&str, SignatureAlg)] = &[
     ("HS512", SignatureAlg::Hs512),
 ];
 
-const MANAGEMENT_ALGS: &[(&str, KeyManagementAlg)] = &[
-    ("dir", KeyManagementAlg::Dir),
-    ("A128KW", KeyManagementAlg::A128Kw),
-    ("A192KW", KeyManagementAlg::A192Kw),
-    ("A256KW", KeyManagementAlg::A256Kw),
-    ("PBES2-HS256+A128KW", KeyManagementAlg::Pbes2Hs256A128Kw),
-    ("PBES2-HS384+A192KW", KeyManagementAlg::Pbes2Hs384A192Kw),
-    ("PBES2-HS512+A256KW", KeyManagementAlg::Pbes2Hs512A256Kw),
-    ("A128GCMKW", KeyManagementAlg::A128GcmKw),
-    ("A192GCMKW", KeyManagementAlg::A192GcmKw),
-    ("A256GCMKW", KeyManagementAlg::A256GcmKw),
-];
-
-const ENCRYPTION_ALGS: &[(&str, ContentEncryptionAlg)] = &[
-    ("A128CBC-HS256", ContentEncryptionAlg::A128CbcHs256),
-    ("A192CBC-HS384", ContentEncryptionAlg::A192CbcHs384),
-    ("A256CBC-HS512", ContentEncryptionAlg::A256CbcHs512),
-    ("A128GCM", ContentEncryptionAlg::A128Gcm),
-    ("A192GCM", ContentEncryptionAlg::A192Gcm),
-    ("A256GCM", ContentEncryptionAlg::A256Gcm),
-];
-
-/// Names that no algorithm of the three sorts has.
+/// Names that no algorithm of signatures has.
 const OTHER_NAMES: &[&str] = &[
-    "",
-    "none",
-    "hs256",
-    "HS256 ",
-    "RS256",
-    "Dir",
-    "A128kw",
-    "A128GCMkw",
-    "A128KWGCM",
-    "PBES2-HS384+A256KW",
-    "PBES2-HS256",
-    "A128CBC-HS512",
-    "A256gcm",
+    "", "none", "hs256", "HS256 ", "RS256", "dir", "A128KW", "A128GCM",
 ];
 
 fn expect_signature_alg(rt: &impl Abort, name: &str, alg: Option<SignatureAlg>) {
     expect_same(rt, SignatureAlg::named(name), alg, name);
-}
-
-fn expect_management_alg(rt: &impl Abort, name: &str, alg: Option<KeyManagementAlg>) {
-    expect_same(rt, KeyManagementAlg::named(name), alg, name);
-}
-
-fn expect_encryption_alg(rt: &impl Abort, name: &str, enc: Option<ContentEncryptionAlg>) {
-    expect_same(rt, ContentEncryptionAlg::named(name), enc, name);
 }
 
 #[test]
@@ -72,40 +31,10 @@ fn signature_algorithms_have_their_names(rt: HostRuntime) {
 }
 
 #[test]
-fn management_algorithms_have_their_names(rt: HostRuntime) {
-    for &(name, alg) in MANAGEMENT_ALGS {
-        expect_management_alg(&rt, name, Some(alg));
-        expect_same(&rt, alg.name(), name, name);
-    }
-}
-
-/// The length of each algorithm's wrapping key, which is 0 if nothing is wrapped.
-#[test]
-fn management_algorithms_wrap_with_keys_of_their_lengths(rt: HostRuntime) {
-    let lens = [0, 16, 24, 32, 16, 24, 32, 16, 24, 32];
-    for (&(name, alg), len) in MANAGEMENT_ALGS.iter().zip(lens) {
-        expect_same(&rt, alg.kek_len(), len, name);
-    }
-}
-
-#[test]
-fn encryption_algorithms_have_their_names(rt: HostRuntime) {
-    for &(name, enc) in ENCRYPTION_ALGS {
-        expect_encryption_alg(&rt, name, Some(enc));
-        expect_same(&rt, enc.name(), name, name);
-    }
-}
-
-#[test]
-fn other_names_are_no_algorithm(rt: HostRuntime) {
+fn other_names_are_no_signature_algorithm(rt: HostRuntime) {
     for &name in OTHER_NAMES {
         expect_signature_alg(&rt, name, None);
-        expect_management_alg(&rt, name, None);
-        expect_encryption_alg(&rt, name, None);
     }
-    expect_signature_alg(&rt, "A128KW", None);
-    expect_management_alg(&rt, "A128GCM", None);
-    expect_encryption_alg(&rt, "dir", None);
 }
 
 /// A key of `len` zero octets that also has these members.
@@ -152,91 +81,19 @@ fn a_signature_key_is_at_least_as_long_as_the_hash(rt: HostRuntime) {
 }
 
 /// One octet less than the length that fits, this length, and one octet more.
-const ENCRYPTION_LENGTHS: &[(KeyManagementAlg, ContentEncryptionAlg, usize, usize, usize)] = &[
-    (
-        KeyManagementAlg::A128Kw,
-        ContentEncryptionAlg::A256CbcHs512,
-        15,
-        16,
-        17,
-    ),
-    (
-        KeyManagementAlg::A192Kw,
-        ContentEncryptionAlg::A128CbcHs256,
-        23,
-        24,
-        25,
-    ),
-    (
-        KeyManagementAlg::A256Kw,
-        ContentEncryptionAlg::A128Gcm,
-        31,
-        32,
-        33,
-    ),
-    (
-        KeyManagementAlg::A128GcmKw,
-        ContentEncryptionAlg::A256CbcHs512,
-        15,
-        16,
-        17,
-    ),
-    (
-        KeyManagementAlg::A192GcmKw,
-        ContentEncryptionAlg::A128CbcHs256,
-        23,
-        24,
-        25,
-    ),
-    (
-        KeyManagementAlg::A256GcmKw,
-        ContentEncryptionAlg::A128Gcm,
-        31,
-        32,
-        33,
-    ),
-    (
-        KeyManagementAlg::Dir,
-        ContentEncryptionAlg::A128CbcHs256,
-        31,
-        32,
-        33,
-    ),
-    (
-        KeyManagementAlg::Dir,
-        ContentEncryptionAlg::A192CbcHs384,
-        47,
-        48,
-        49,
-    ),
-    (
-        KeyManagementAlg::Dir,
-        ContentEncryptionAlg::A256CbcHs512,
-        63,
-        64,
-        65,
-    ),
-    (
-        KeyManagementAlg::Dir,
-        ContentEncryptionAlg::A128Gcm,
-        15,
-        16,
-        17,
-    ),
-    (
-        KeyManagementAlg::Dir,
-        ContentEncryptionAlg::A192Gcm,
-        23,
-        24,
-        25,
-    ),
-    (
-        KeyManagementAlg::Dir,
-        ContentEncryptionAlg::A256Gcm,
-        31,
-        32,
-        33,
-    ),
+const ENCRYPTION_LENGTHS: &[(KeyAlg, ContentAlg, usize, usize, usize)] = &[
+    (KeyAlg::A128Kw, ContentAlg::A256CbcHs512, 15, 16, 17),
+    (KeyAlg::A192Kw, ContentAlg::A128CbcHs256, 23, 24, 25),
+    (KeyAlg::A256Kw, ContentAlg::A128Gcm, 31, 32, 33),
+    (KeyAlg::A128GcmKw, ContentAlg::A256CbcHs512, 15, 16, 17),
+    (KeyAlg::A192GcmKw, ContentAlg::A128CbcHs256, 23, 24, 25),
+    (KeyAlg::A256GcmKw, ContentAlg::A128Gcm, 31, 32, 33),
+    (KeyAlg::Dir, ContentAlg::A128CbcHs256, 31, 32, 33),
+    (KeyAlg::Dir, ContentAlg::A192CbcHs384, 47, 48, 49),
+    (KeyAlg::Dir, ContentAlg::A256CbcHs512, 63, 64, 65),
+    (KeyAlg::Dir, ContentAlg::A128Gcm, 15, 16, 17),
+    (KeyAlg::Dir, ContentAlg::A192Gcm, 23, 24, 25),
+    (KeyAlg::Dir, ContentAlg::A256Gcm, 31, 32, 33),
 ];
 
 #[test]
@@ -249,10 +106,10 @@ fn a_key_of_encryption_has_one_length(rt: HostRuntime) {
     }
 }
 
-const PASSWORD_ALGS: &[KeyManagementAlg] = &[
-    KeyManagementAlg::Pbes2Hs256A128Kw,
-    KeyManagementAlg::Pbes2Hs384A192Kw,
-    KeyManagementAlg::Pbes2Hs512A256Kw,
+const PASSWORD_ALGS: &[KeyAlg] = &[
+    KeyAlg::Pbes2Hs256A128Kw,
+    KeyAlg::Pbes2Hs384A192Kw,
+    KeyAlg::Pbes2Hs512A256Kw,
 ];
 
 const PASSWORD_LENGTHS: &[usize] = &[1, 15, 16, 17, 32, 65, 4096];
@@ -260,7 +117,7 @@ const PASSWORD_LENGTHS: &[usize] = &[1, 15, 16, 17, 32, 65, 4096];
 #[test]
 fn a_password_has_any_length(rt: HostRuntime) {
     for &alg in PASSWORD_ALGS {
-        let algorithm = Algorithm::Encryption(alg, ContentEncryptionAlg::A128Gcm);
+        let algorithm = Algorithm::Encryption(alg, ContentAlg::A128Gcm);
         for &len in PASSWORD_LENGTHS {
             expect_fit(&rt, len, algorithm, true);
         }

@@ -1,9 +1,9 @@
 -- What contracts see of key management. It is apart from the other views, because it is in invariants of their types.
 use Rattle.std.specs.Prelude.{ℕ, ◌&&◌, Bool, true, false, nat_le, List, length, Option, Some, None}
-use Rattle.keys.specs.declared.algorithm.KeyManagementAlg.{KeyManagementAlg}
-use Rattle.keys.specs.declared.algorithm.KeyManagementMode.{KeyManagementMode}
-use Rattle.keys.specs.declared.algorithm.KeyManagementMode.TheVariants as mode
-use Rattle.keys.specs.Algorithms.{mode_of}
+use Rattle.ciphers.specs.declared.key_alg.KeyAlg.{KeyAlg}
+use Rattle.ciphers.specs.declared.key_alg.KeyManagementMode.{KeyManagementMode}
+use Rattle.ciphers.specs.declared.key_alg.KeyManagementMode.TheVariants as mode
+use Rattle.ciphers.specs.Algorithms.{mode_of}
 use Rattle.objects.specs.KeyManagement as management
 use Rattle.objects.specs.declared.key_management.KeyManagement.{KeyManagement}
 use Rattle.objects.specs.declared.key_management.KeyManagement.TheVariants.{Unknown, Direct, KeyWrap, Password, GcmKeyWrap}
@@ -28,7 +28,7 @@ is_management_in mode.GcmKeyWrap (management.GcmKeyWrap iv tag) = true
 is_management_in m other = false
 
 -- it is of the algorithm
-abbrev pub is_management_of : Option KeyManagementAlg → management.KeyManagement → Bool
+abbrev pub is_management_of : Option KeyAlg → management.KeyManagement → Bool
 is_management_of (Some alg) it = is_management_in (mode_of alg) it
 is_management_of None management.Unknown = true
 is_management_of None other = false

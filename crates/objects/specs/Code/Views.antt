@@ -29,6 +29,8 @@ use Rattle.objects.specs.declared.jws.parts.JwsParts as jws_parts
 use Rattle.objects.specs.declared.jws.signature.Signature as signature
 use Rattle.objects.specs.declared.jws.parts.SignatureMembers as signature_members
 use Rattle.objects.specs.declared.jws.parts.SignatureParts as signature_parts
+use Rattle.objects.specs.declared.jws.parts.MadeSignature as made_signature
+use Rattle.keys.specs.Algorithms.{signature_name}
 use Rattle.objects.specs.declared.jws.encoded.EncodedJws as encoded_jws
 use Rattle.objects.specs.declared.jws.encoded.EncodedSignature as encoded_signature
 use Rattle.objects.specs.declared.content.payload.HeldContent as held
@@ -94,6 +96,15 @@ encoded_jws_view t = record { payload = content_text_view t.payload; signatures 
 
 abbrev pub signature_parts_view : signature_parts.SignatureParts → SignatureParts
 signature_parts_view p = record { protected = string_bytes p.protected; header = members_view p.header.entries; signature = p.signature.items }
+
+abbrev pub made_signature_view : made_signature.MadeSignature → Signature
+made_signature_view m = record {
+  protected = string_bytes m.parts.protected;
+  protected_members = members_view m.protected_members.entries;
+  header = members_view m.parts.header.entries;
+  signature = m.parts.signature.items;
+  alg = signature_name m.alg;
+}
 
 abbrev pub jws_parts_view : jws_parts.JwsParts → JwsParts
 jws_parts_view p = record { payload = p.payload.items; signatures = map signature_parts_view p.signatures.items }

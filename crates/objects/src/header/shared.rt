@@ -4,7 +4,7 @@ ghost use Rattle.serde_json.specs.Data.{Members};
 ghost use Rattle.octets.specs.declared.refusal.Refusal.{Refusal};
 ghost use Rattle.std.specs.Option.{ok_or};
 ghost use Rattle.octets.specs.Code.Results.{Agrees, AgreesUnlessMemory};
-ghost use Rattle.objects.specs.Headers.{string_parameter, string_there, salt_parameter, octets_parameter};
+ghost use Rattle.objects.specs.Headers.{string_there, salt_parameter, octets_parameter};
 ghost use Rattle.objects.specs.Code.SharedParameters.{AreReadIn};
 ghost use Rattle.objects.specs.Code.Views.{header_view};
 

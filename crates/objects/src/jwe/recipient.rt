@@ -2,7 +2,7 @@
 ghost use Rattle.std.specs.Prelude.{◌≡◌, true, length, map, IfOk};
 ghost use Rattle.serde_json.specs.View.{members_view};
 ghost use Rattle.octets.specs.Code.Results.{AgreesUnlessMemory};
-ghost use Rattle.keys.specs.Algorithms.{management_alg_of};
+ghost use Rattle.ciphers.specs.Algorithms.{management_alg_of};
 ghost use Rattle.keys.specs.Limits.{limits};
 ghost use Rattle.objects.specs.Jwe.{recipient_of, has_no_crit_or_zip, recipients_of, recipients_of_one_enc, have_one_enc as have_one_enc_of};
 ghost use Rattle.objects.specs.Code.KeyManagementView.{management_view, is_management_of};

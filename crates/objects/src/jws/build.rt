@@ -1,17 +1,22 @@
 //! Signed objects that are made of their members.
-ghost use Rattle.std.specs.Prelude.{◌≡◌, true, false, length, map, IfOk};
+ghost use Rattle.std.specs.Prelude.{◌≡◌, true, false, length, map, IfOk, IfErr};
 ghost use Rattle.std.specs.List.{list_all};
 ghost use Rattle.octets.specs.Code.Results.{AgreesUnlessMemory};
 ghost use Rattle.keys.specs.Json.{member_numbers_are_whole};
 ghost use Rattle.keys.specs.Limits.{limits};
 ghost use Rattle.objects.specs.Jws.{AreMembers, IsMade, built, decoded_part, nest_at_most as nest_at_most_parts, have_whole_numbers as have_whole_numbers_parts};
 ghost use Rattle.objects.specs.Texts.{each};
-ghost use Rattle.objects.specs.Code.Views.{jws_view, holds_text, jws_parts_view, signature_parts_view, decoded_signature_view};
+ghost use Rattle.objects.specs.Code.Making.{IsBuilt, made_object};
+ghost use Rattle.objects.specs.Code.Views.{jws_view, holds_text, jws_parts_view, signature_view, made_signature_view, signature_parts_view, decoded_signature_view};
 
 use crate::content::payload::Payload;
 use crate::header::depth::depth_of_each;
 use crate::header::parts::with_whole_numbers;
-use crate::jws::parts::{DecodedSignature, JwsParts, SignatureMembers, SignatureParts};
+use crate::jws::parts::{
+    DecodedSignature, JwsParts, MadeSignature, SignatureMembers, SignatureParts,
+};
+use crate::jws::signature::Signature;
+use crate::jws::signature_list::SignatureList;
 use crate::jws::{Jws, signed_object};
 use keys::{MOST_RECIPIENTS, members_have_whole_numbers, object_nests_at_most};
 use octets::{Refusal, b64_decode, needs};
@@ -28,6 +33,40 @@ impl<'t> Jws<'t> {
     {
         object_of_parts(alloc, parts)
     }
+
+    /// The object of signatures that were made. None of their texts is read again, so it must be what `build` returns for the members. Fails
+    /// only with `Memory`.
+    pub fn made(
+        alloc: Global,
+        payload: Vec<u8>,
+        signatures: Vec<MadeSignature>,
+    ) -> Result<Jws<'t>, Refusal>
+        requires { IsBuilt limits (made_object payload.items (map made_signature_view signatures.items)) }
+        ensures exact { IfOk result (λ jws. jws_view jws ≡ made_object payload.items (map made_signature_view signatures.items)) }
+        ensures form { IfOk result (λ jws. holds_text jws ≡ false) }
+        ensures memory { IfErr result (λ e. e ≡ Refusal.Memory) }
+    {
+        let signatures = made_signatures(alloc, signatures)?;
+        Ok(Jws {
+            payload: Payload::Octets(payload),
+            signatures: SignatureList { list: signatures },
+        })
+    }
+}
+
+/// The signatures that were made.
+#[tactic(auto, using(crate::proofs::Each::views))]
+fn made_signatures(alloc: Global, made: Vec<MadeSignature>) -> Result<Vec<Signature>, Refusal>
+    requires { list_all (λ m. member_numbers_are_whole (made_signature_view m).header) made.items ≡ true }
+    ensures signatures { IfOk result (λ signatures. map signature_view signatures.items ≡ map made_signature_view made.items) }
+    ensures as_many { IfOk result (λ signatures. length signatures.items ≡ length made.items) }
+    ensures memory { IfErr result (λ e. e ≡ Refusal.Memory) }
+{
+    let mut signatures = Vec::new(alloc);
+    for signature in made {
+        signatures.push(Signature::made(alloc, signature)?)?;
+    }
+    Ok(signatures)
 }
 
 /// The object with these members.

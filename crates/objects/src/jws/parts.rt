@@ -1,6 +1,7 @@
 //! The members of a signed object, as they are passed, as they are kept, and with the octets of a protected header.
 
 use crate::header::members::HeaderMembers;
+use keys::SignatureAlg;
 use serde_json::{Map, Value};
 
 /// The members of a signature. An absent one is empty.
@@ -11,6 +12,16 @@ pub struct SignatureParts {
     /// The unprotected header (RFC 7515 section 7.2.1): the member `header`.
     pub header: Map<String, Value>,
     pub signature: Vec<u8>,
+}
+
+/// A signature that is made: its members, and what reading its headers gives.
+#[derive(Drop)]
+pub struct MadeSignature {
+    pub parts: SignatureParts,
+    /// The members of the protected header.
+    pub protected_members: Map<String, Value>,
+    /// The algorithm that the joint header names.
+    pub alg: SignatureAlg,
 }
 
 /// The members of a signed object.

@@ -1,22 +1,23 @@
 //! The signatures of an object, by their headers (RFC 7515 section 4).
-ghost use Rattle.std.specs.Prelude.{◌≡◌, length, map, IfOk};
+ghost use Rattle.std.specs.Prelude.{◌≡◌, true, length, map, IfOk, IfErr};
 ghost use Rattle.std.specs.List.{list_all};
 ghost use Rattle.serde_json.specs.Data.{no_members};
 ghost use Rattle.serde_json.specs.View.{members_view};
 ghost use Rattle.octets.specs.Code.Results.{AgreesUnlessMemory};
 ghost use Rattle.keys.specs.Algorithms.{signature_alg_of};
+ghost use Rattle.keys.specs.Json.{member_numbers_are_whole};
 ghost use Rattle.keys.specs.Limits.{limits};
 ghost use Rattle.objects.specs.Headers.{all_members};
 ghost use Rattle.objects.specs.Jws.{signatures_of, headed_signature, signature_by, headers_have_no_crit};
 ghost use Rattle.objects.specs.Texts.{each};
-ghost use Rattle.objects.specs.Code.Views.{header_view, signature_view, decoded_signature_view, headed_signature_view};
+ghost use Rattle.objects.specs.Code.Views.{header_view, signature_view, made_signature_view, decoded_signature_view, headed_signature_view};
 
 use crate::header::members::HeaderMembers;
-use crate::header::parts::has_no_crit;
+use crate::header::parts::{has_no_crit, with_whole_numbers};
 use crate::header::shared::SharedParameters;
 use crate::header::string_there;
 use crate::jws::named_alg::NamedSignatureAlg;
-use crate::jws::parts::{DecodedSignature, SignatureMembers};
+use crate::jws::parts::{DecodedSignature, MadeSignature, SignatureMembers, SignatureParts};
 use crate::key_management::read_key_management;
 use crate::{Header, read_protected};
 use keys::SignatureAlg;
@@ -42,6 +43,35 @@ pub struct Signature {
 }
 
 impl Signature {
+    /// The signature that was made. Fails only with `Memory`.
+    #[tactic(auto, unfolding(keys::specs::Algorithms::signature_alg_of))]
+    pub(crate) fn made(alloc: Global, made: MadeSignature) -> Result<Signature, Refusal>
+        requires { member_numbers_are_whole (made_signature_view made).header ≡ true }
+        ensures signature { IfOk result (λ signature. signature_view signature ≡ made_signature_view made) }
+        ensures memory { IfErr result (λ e. e ≡ Refusal.Memory) }
+    {
+        let MadeSignature {
+            parts,
+            protected_members,
+            alg,
+        } = made;
+        let SignatureParts {
+            protected,
+            header,
+            signature,
+        } = parts;
+        Ok(Signature {
+            protected,
+            protected_members,
+            header: with_whole_numbers(header),
+            signature,
+            alg: NamedSignatureAlg {
+                name: String::from_str(alloc, alg.name())?,
+                alg: Some(alg),
+            },
+        })
+    }
+
     /// The base64url text of the protected header, as it was received. It begins the signing input (RFC 7515 section 5.2).
     pub fn protected(&self) -> &str
         ensures { result.now ≡ (signature_view self.now).protected }

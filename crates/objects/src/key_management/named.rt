@@ -1,6 +1,6 @@
 //! Key management with the name of its algorithm.
 ghost use Rattle.std.specs.Prelude.{◌≡◌, true};
-ghost use Rattle.keys.specs.Algorithms.{management_alg_of};
+ghost use Rattle.ciphers.specs.Algorithms.{management_alg_of};
 ghost use Rattle.objects.specs.Code.KeyManagementView.{management_view, is_management_of};
 
 use crate::KeyManagement;

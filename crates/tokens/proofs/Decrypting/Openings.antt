@@ -1,13 +1,15 @@
 -- The plaintext that a pair opens follows from the contracts of its ciphers.
-use Rattle.std.proofs.Common.{◌≡◌, ◌↔◌, ℕ, ◌≤◌, List, length, Option, Some, None, IfSome, IfNone, option_map, option_and_then, take, refl, sym, ap}
+use Rattle.std.proofs.Common.{◌≡◌, ◌↔◌, ℕ, ◌≤◌, Bool, true, List, [], ◌∷◌, length, map, Option, Some, None, IfSome, IfNone, option_map, option_and_then, cond, take, refl, sym, ap, ◌∙◌}
+use Rattle.std.specs.Option.{option_or}
 use Rattle.octets.specs.Octets.{IsOctets}
 use Rattle.ciphers.specs.declared.content_alg.ContentAlg.{ContentAlg}
 use Rattle.ciphers.specs.declared.key_alg.KeyAlg.{KeyAlg}
 use Rattle.ciphers.specs.Delivery.{Parameters, IsDelivered}
 use Rattle.ciphers.specs.Openings.{delivered, opening, DeliversExactly, OpensExactly}
 use Rattle.ciphers.specs.Sealing.{IsOpening}
-use Rattle.tokens.specs.Algorithms.{content_alg}
-use Rattle.tokens.specs.Decrypting.{Pair, SealedContent, cek_of, opened_by}
+use Rattle.keys.specs.Keys.{OctetKey}
+use Rattle.tokens.specs.Decrypting.{Pair, SealedContent, cek_of, opened_by, first_opened, is_candidate}
+use Rattle.tokens.specs.Code.Trying.{pair_if_candidate}
 
 -- If a result is right whenever it is there, and absent only if nothing is right, it is the option with exactly the right value.
 found : {X : Type 0} (P : X → Type 0) (o r : Option X) → ((x : X) → P x → o ≡ Some x) → ((x : X) → o ≡ Some x → P x) → IfSome r P
@@ -49,6 +51,23 @@ opens exactly alg cek iv aad c tag now result cek_octets iv_octets some none =
 
 -- A pair opens the plaintext with the content encryption key that it delivers.
 pub opened_with : (s : SealedContent) (pair : Pair) (cek : List ℕ) → cek_of pair ≡ Some cek
-    → opening (content_alg pair.algorithms.encryption) cek s.iv s.aad s.ciphertext s.tag ≡ opened_by s pair
+    → opening pair.algorithms.encryption cek s.iv s.aad s.ciphertext s.tag ≡ opened_by s pair
 unfolding opened_by
-opened_with s pair cek h = ap (option_and_then (λ cek. opening (content_alg pair.algorithms.encryption) cek s.iv s.aad s.ciphertext s.tag)) (sym h)
+opened_with s pair cek h = ap (option_and_then (λ cek. opening pair.algorithms.encryption cek s.iv s.aad s.ciphertext s.tag)) (sym h)
+
+-- ---- a pair whose key is a candidate
+
+module _ (pair : Pair) (is : is_candidate pair.algorithms pair.key ≡ true) where
+  abbrev pair_with : OctetKey → Pair
+  pair_with key = record { recipient = pair.recipient; algorithms = pair.algorithms; key = key }
+
+  pub alone : pair_if_candidate pair ≡ pair ∷ []
+  alone = ap (λ b. map pair_with (cond b (pair.key ∷ []) [])) is
+
+  -- It opens what the pair opens.
+  pub opened_alone : (s : SealedContent) → first_opened s (pair_if_candidate pair) ≡ opened_by s pair
+  opened_alone s = ap (first_opened s) alone ∙ or_none (opened_by s pair)
+    where
+      or_none : (o : Option (List ℕ)) → option_or o None ≡ o
+      or_none None = refl
+      or_none (Some x) = refl

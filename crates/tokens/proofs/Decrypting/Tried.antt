@@ -9,9 +9,9 @@ use Rattle.std.proofs.lemmas.List.Elements.{filter-append}
 use Rattle.std.proofs.lemmas.List.Folds.{list_all-append}
 use Rattle.std.proofs.lemmas.Slice.Eq.{bytes_eq-Decides}
 use Rattle.keys.specs.declared.key.Key.{Key}
-use Rattle.keys.specs.declared.algorithm.KeyManagementMode.{KeyManagementMode}
-use Rattle.keys.specs.declared.algorithm.KeyManagementMode.TheVariants as mode
-use Rattle.keys.specs.Algorithms.{mode_of}
+use Rattle.ciphers.specs.declared.key_alg.KeyManagementMode.{KeyManagementMode}
+use Rattle.ciphers.specs.declared.key_alg.KeyManagementMode.TheVariants as mode
+use Rattle.ciphers.specs.Algorithms.{mode_of}
 use Rattle.keys.specs.Keys.{OctetKey}
 use Rattle.keys.specs.Limits.{limits}
 use Rattle.keys.specs.Code.Views.{key_view}

@@ -9,10 +9,10 @@ use Rattle.ciphers.specs.Delivery.{IsDelivered}
 use Rattle.octets.proofs.Lemmas.{IsOctets-take, IsOctets-drop}
 use Rattle.ciphers.specs.Sealing.{cek_len, iv_len}
 use Rattle.keys.specs.declared.algorithm.Algorithm.TheVariants.{Encryption as EncryptionWith}
-use Rattle.keys.specs.declared.algorithm.ContentEncryptionAlg.{ContentEncryptionAlg}
+use Rattle.ciphers.specs.declared.content_alg.ContentAlg.{ContentAlg}
 use Rattle.keys.specs.Keys.{OctetKey, AreOctetKeys, fits}
 use Rattle.objects.proofs.Lemmas.{all_then, all_both}
-use Rattle.tokens.specs.Algorithms.{content_alg, key_alg, parameters_by}
+use Rattle.tokens.specs.Algorithms.{parameters_by}
 use Rattle.tokens.specs.Choosing.{RecipientKey, is_direct, is_alone, direct_key_is_alone, EncryptionPlan}
 use Rattle.tokens.specs.Delivering.{drawn_for, drawn_for_all, Delivery, delivery_to, deliveries_to}
 use Rattle.tokens.specs.Encrypting.{direct_key, drawn_cek, cek_drawn, random_len, for_recipients, after_recipients, cek_by}
@@ -64,15 +64,15 @@ deliveries_are e cek (r ∷ rest) drawn = ap (λ others. delivery_to e cek r (ta
 -- ---- a key that is used directly or drawn
 
 -- The content encryption key has the right length. If a key is used directly, it is this key.
-pub record IsCek (enc : ContentEncryptionAlg) (recipient_keys : List RecipientKey) (cek : List ℕ) : Type 0 where
+pub record IsCek (enc : ContentAlg) (recipient_keys : List RecipientKey) (cek : List ℕ) : Type 0 where
   pub octets : IsOctets cek
-  pub fits : length cek ≡ cek_len (content_alg enc)
+  pub fits : length cek ≡ cek_len enc
   pub direct : AllByRecursion (λ r. is_direct r.management ≡ true → cek ≡ r.key.octets) recipient_keys
 
 -- For a single recipient, the direct key or the drawn octets are the content encryption key.
-cek_of_one : (enc : ContentEncryptionAlg) (r : RecipientKey) (drawn : List ℕ) (direct : Bool) → is_direct r.management ≡ direct
+cek_of_one : (enc : ContentAlg) (r : RecipientKey) (drawn : List ℕ) (direct : Bool) → is_direct r.management ≡ direct
     → fits r.key (EncryptionWith r.management enc) ≡ true
-    → IsOctets r.key.octets → IsOctets drawn → length drawn ≡ drawn_cek (if direct then Some r.key.octets else None) (cek_len (content_alg enc))
+    → IsOctets r.key.octets → IsOctets drawn → length drawn ≡ drawn_cek (if direct then Some r.key.octets else None) (cek_len enc)
     → IsCek enc (r ∷ []) (unwrap_or (if direct then Some r.key.octets else None) drawn)
 cek_of_one enc r drawn true is fit octets random long = record {
   octets = octets;
@@ -88,11 +88,11 @@ none_direct [] h = tt
 none_direct (r ∷ rest) h = let both = or_parts (is_direct r.management) (list_any (λ r. is_direct r.management) rest) h in (both.0, none_direct rest both.1)
 
 -- The direct key or the drawn octets are the content encryption key of all recipients.
-pub cek_is : (enc : ContentEncryptionAlg) (recipient_keys : List RecipientKey) (drawn : List ℕ) → direct_key_is_alone recipient_keys ≡ true
+pub cek_is : (enc : ContentAlg) (recipient_keys : List RecipientKey) (drawn : List ℕ) → direct_key_is_alone recipient_keys ≡ true
     → 1 ≤ length recipient_keys
     → AllByRecursion (λ r. fits r.key (EncryptionWith r.management enc) ≡ true) recipient_keys
     → AllByRecursion (λ r. IsOctets r.key.octets) recipient_keys → IsOctets drawn
-    → length drawn ≡ drawn_cek (direct_key recipient_keys) (cek_len (content_alg enc)) → IsCek enc recipient_keys (unwrap_or (direct_key recipient_keys) drawn)
+    → length drawn ≡ drawn_cek (direct_key recipient_keys) (cek_len enc) → IsCek enc recipient_keys (unwrap_or (direct_key recipient_keys) drawn)
 cek_is enc [] drawn together some fit octets random long = absurd (omega arith)
 cek_is enc (r ∷ []) drawn together some fit octets random long = cek_of_one enc r drawn (is_direct r.management) refl fit.0 octets.0 random long
 cek_is enc (r ∷ (other ∷ rest)) drawn together some fit octets random long =
@@ -103,7 +103,7 @@ cek_is enc (r ∷ (other ∷ rest)) drawn together some fit octets random long =
     let none = none_direct all (not-true _ wrap) in
     let made : IsCek enc all drawn = record {
       octets = random;
-      fits = long ∙ ap (λ direct. drawn_cek (if direct then Some r.key.octets else None) (cek_len (content_alg enc))) none.0;
+      fits = long ∙ ap (λ direct. drawn_cek (if direct then Some r.key.octets else None) (cek_len enc)) none.0;
       direct = all_then (λ r. is_direct r.management ≡ false) _ (λ r is e. cc (is, e)) all none;
     } in
     subst (λ direct. IsCek enc all (unwrap_or (if direct then Some r.key.octets else None) drawn)) (sym none.0) made
@@ -114,21 +114,21 @@ cek_is enc (r ∷ (other ∷ rest)) drawn together some fit octets random long =
 pub record Delivers (e : EncryptionPlan) (cek : List ℕ) (x : RecipientKey × List ℕ) : Type 0 where
   pub key : IsOctets x.0.key.octets
   pub iv : IsOctets (parameters_by (delivery e cek x).management).iv
-  pub delivers : IsDelivered (key_alg x.0.management) (content_alg e.encryption) x.0.key.octets (parameters_by (delivery e cek x).management)
+  pub delivers : IsDelivered x.0.management e.encryption x.0.key.octets (parameters_by (delivery e cek x).management)
       (delivery e cek x).encrypted_key cek
 
 -- A recipient is delivered every content encryption key that has the right length and is its direct key, if it uses one.
-delivered_to : (e : EncryptionPlan) (cek : List ℕ) (x : RecipientKey × List ℕ) → IsOctets cek → length cek ≡ cek_len (content_alg e.encryption)
+delivered_to : (e : EncryptionPlan) (cek : List ℕ) (x : RecipientKey × List ℕ) → IsOctets cek → length cek ≡ cek_len e.encryption
     → IsOctets x.0.key.octets
     → (is_direct x.0.management ≡ true → cek ≡ x.0.key.octets) → IsOctets x.1 → length x.1 ≡ drawn_for x.0 → Delivers e cek x
 delivered_to e cek x octets fits key direct drawn long =
     let alg = x.0.management in
     record {
       key = key;
-      iv = iv_is_octets (content_alg e.encryption) x.0.key.octets x.1 e.p2c cek alg _ drawn;
+      iv = iv_is_octets e.encryption x.0.key.octets x.1 e.p2c cek alg _ drawn;
       delivers = record {
         octets = octets;
-        is_delivered = is_delivered (content_alg e.encryption) x.0.key.octets x.1 e.p2c cek alg fits direct long;
+        is_delivered = is_delivered e.encryption x.0.key.octets x.1 e.p2c cek alg fits direct long;
       };
     }
 
@@ -146,7 +146,7 @@ octet_keys recipient_keys keys same octets = of_images recipient_keys (subst Are
 
 -- After the octets for the recipients, there are enough for the content encryption key and the initialization vector.
 pub after_long : (e : EncryptionPlan) (random : List ℕ) → length random ≡ random_len e
-    → length (after_recipients e random) ≡ cek_drawn e + iv_len (content_alg e.encryption)
+    → length (after_recipients e random) ≡ cek_drawn e + iv_len e.encryption
 after_long e random long = length-drop (drawn_for_all e.recipient_keys) random ∙ omega (arith, long)
 
 -- The content encryption key fits the recipients.

@@ -18,7 +18,6 @@ use Rattle.objects.specs.Texts.{handed_out}
 use Rattle.objects.specs.Code.Writing.{Written, all_texts}
 use Rattle.objects.specs.Code.JweWriting.{jwe_written}
 use Rattle.objects.proofs.Lemmas.{jwe_refused, is_jwe_frame}
-use Rattle.tokens.specs.Algorithms.{content_alg}
 use Rattle.tokens.specs.Choosing.{EncryptionPlan, read_encryption}
 use Rattle.tokens.specs.Decrypting.{additional_authenticated_data}
 use Rattle.tokens.specs.Delivering.{drawn_for_all}
@@ -88,13 +87,13 @@ module _ (compact : Bool) (keys : List OctetKey) (template : List ℕ) (e : Encr
 
   -- ---- every plaintext
 
-  module _ (cek : IsOctets (cek_by e random)) (cek_fits : length (cek_by e random) ≡ cek_len (content_alg e.encryption)) where
+  module _ (cek : IsOctets (cek_by e random)) (cek_fits : length (cek_by e random) ≡ cek_len e.encryption) where
     sealed_octets : (p : List ℕ) → IsOctets p → (IsTooLong (sealing_by e random) p → ⊥)
         → IsOctets ((sealing_by e random).sealed p).ciphertext × IsOctets ((sealing_by e random).sealed p).tag
     sealed_octets p octets short =
         let later : List ℕ = after_recipients e random in
         let iv : IsOctets (iv_by e random) = IsOctets-drop (cek_drawn e) later (IsOctets-drop (drawn_for_all e.recipient_keys) random random_octets) in
-        laws.opened (content_alg e.encryption) (cek_by e random) (iv_by e random)
+        laws.opened e.encryption (cek_by e random) (iv_by e random)
         (additional_authenticated_data (base64url (header_by e random)) e.aad) _ _ p cek iv (record {
           cek_fits = cek_fits;
           iv_fits = length-drop (cek_drawn e) later ∙ omega (arith, after_long e random long);
@@ -111,7 +110,7 @@ module _ (compact : Bool) (keys : List OctetKey) (template : List ℕ) (e : Encr
         let is_sealed = sealed_is (sealing_by e random) p sealed h in
         let both = sealed_octets p octets is_sealed.0 in
         let some : 1 ≤ length ((sealing_by e random).sealed p).tag =
-        some_tag (content_alg e.encryption) (cek_by e random) (iv_by e random) (additional_authenticated_data (base64url (header_by e random)) e.aad) p in
+        some_tag e.encryption (cek_by e random) (iv_by e random) (additional_authenticated_data (base64url (header_by e random)) e.aad) p in
         ap (λ r. (r >>= λ s. built limits (parts_by e random s)) >>= written_of compact detach) h
         ∙ subst (λ x. (built limits (parts_by e random x) >>= written_of compact detach)
         ≡ Ok (record { text = filled texts (in_places detach x.ciphertext (x.tag ∷ [])); content = handed_out detach x.ciphertext })) is_sealed.1
@@ -124,7 +123,7 @@ pub is_unsealed : {S : Type 0} (is_sealing : S → Sealing → List ℕ → Type
     → read_encryption limits compact keys template ≡ Ok e → are_few limits (length e.recipient_keys) ≡ true → OctetLaws → AreOctetKeys keys → IsOctets random
     → length random ≡ random_len e → octets ≡ random ++ rest
     → is_sealing sealer (sealing_by e random) [] → frame_by limits compact detach e random ≡ Ok texts
-    → IsOctets (cek_by e random) × (length (cek_by e random) ≡ cek_len (content_alg e.encryption))
+    → IsOctets (cek_by e random) × (length (cek_by e random) ≡ cek_len e.encryption)
     → IsUnsealed is_sealing compact detach (plan_from (enc_plan limits compact detach keys template) octets) sealer texts
 is_unsealed is_sealing compact detach keys template e random octets rest sealer texts is few laws key_octets random_octets long continues started framed cek =
     record {

@@ -10,7 +10,6 @@ use Rattle.keys.specs.Keys.{OctetKey, AreOctetKeys}
 use Rattle.keys.specs.Limits.{limits, are_few}
 use Rattle.objects.specs.Code.Frames.{filled, in_places, first_text}
 use Rattle.tokens.specs.Code.SealedTexts.{frame_by}
-use Rattle.tokens.specs.Algorithms.{content_alg}
 use Rattle.tokens.specs.Choosing.{EncryptionPlan, read_encryption}
 use Rattle.tokens.specs.Decrypting.{additional_authenticated_data}
 use Rattle.tokens.specs.Encrypting.{random_len, cek_by, iv_by, header_by, sealing_by, encrypted, text_before, within_longest, written_of, ciphertext_fixed, text_fixed, plan_by, EncryptingGrows}
@@ -41,7 +40,7 @@ more_fixed e random p q =
     let front : List ℕ = within_longest s.longest p in
     let more = within_grows s.longest p q in
     subst (λ l. Begins (s.fixed front) (s.fixed l)) (sym more.continues)
-    (fixed_grows (content_alg e.encryption) (cek_by e random) (iv_by e random)
+    (fixed_grows e.encryption (cek_by e random) (iv_by e random)
     (additional_authenticated_data (base64url (header_by e random)) e.aad) front more.rest)
 
 -- The fixed part begins the ciphertext, if the plaintext is not too long.
@@ -50,7 +49,7 @@ pub fixed_begins : (e : EncryptionPlan) (random p q : List ℕ) → (IsTooLong (
 fixed_begins e random p q short =
     let s = sealing_by e random in
     subst (λ l. Begins (s.fixed l) (s.sealed (p ++ q)).ciphertext) (sym (all_within s.longest p q short))
-    (ciphertext_grows (content_alg e.encryption) (cek_by e random) (iv_by e random) (additional_authenticated_data (base64url (header_by e random)) e.aad) p q)
+    (ciphertext_grows e.encryption (cek_by e random) (iv_by e random) (additional_authenticated_data (base64url (header_by e random)) e.aad) p q)
 
 -- ---- the text
 

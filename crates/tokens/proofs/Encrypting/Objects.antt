@@ -16,7 +16,7 @@ use Rattle.octets.proofs.Lemmas.{meaning_of_text, has_url_characters, IsOctets-d
 use Rattle.ciphers.specs.Openings.{is_longer}
 use Rattle.ciphers.specs.Sealing.{Sealed, Sealing, IsTooLong, IsOpening}
 use Rattle.ciphers.proofs.Lemmas.{longer_decided}
-use Rattle.keys.specs.Algorithms.{encryption_name, management_algs}
+use Rattle.ciphers.specs.Algorithms.{encryption_name, management_algs}
 use Rattle.keys.specs.Json.{member_numbers_are_whole}
 use Rattle.keys.specs.JsonTexts.{AreJsonMembers}
 use Rattle.keys.specs.Keys.{OctetKey, AreOctetKeys}
@@ -25,7 +25,6 @@ use Rattle.keys.proofs.Lemmas.{numbers_whole, url_texts_are_json}
 use Rattle.objects.specs.Jwe.{RecipientParts, EncryptedObject, have_one_enc, has_no_crit_or_zip, encrypted_object, built, AreMembers, recipients_of_one_enc, jwe_text}
 use Rattle.objects.specs.Texts.{header_depth, depth_of_each, handed_out}
 use Rattle.objects.proofs.Lemmas.{all_images, jwe_is_built}
-use Rattle.tokens.specs.Algorithms.{content_alg}
 use Rattle.tokens.specs.Choosing.{RecipientKey, EncryptionPlan, read_encryption}
 use Rattle.tokens.specs.Decrypting.{additional_authenticated_data}
 use Rattle.tokens.specs.Delivering.{drawn_for_all}
@@ -132,7 +131,7 @@ sealed_is s p made h =
 pub record IsEncrypted (limits : Limits) (e : EncryptionPlan) (random plaintext : List ℕ) (o : EncryptedObject) : Type 0 where
   pub sealed : Sealed
   pub delivers : AllByRecursion (Delivers e (cek_by e random)) (drawn_by_each e random)
-  pub opens : IsOpening (content_alg e.encryption) (cek_by e random) (iv_by e random)
+  pub opens : IsOpening e.encryption (cek_by e random) (iv_by e random)
       (additional_authenticated_data (base64url (header_by e random)) e.aad) sealed.ciphertext sealed.tag plaintext
   pub members : AreMembers (parts_by e random sealed)
   pub made : built limits (parts_by e random sealed) ≡ Ok o
@@ -166,7 +165,7 @@ pub is_encrypted : OctetLaws → (limits : Limits) → limits.management ≡ man
     → (keys : List OctetKey) (e : EncryptionPlan) (random plaintext : List ℕ) (o : EncryptedObject) → AreOctetKeys keys → IsOctets random → IsOctets plaintext
     → length random ≡ random_len e → Settles keys e → encrypted limits e random plaintext ≡ Ok o → IsEncrypted limits e random plaintext o
 is_encrypted laws limits known keys e random plaintext o key_octets random_octets octets long by h =
-    let enc = content_alg e.encryption in
+    let enc = e.encryption in
     let cek : List ℕ = cek_by e random in
     let iv : List ℕ = iv_by e random in
     let authentic : List ℕ = additional_authenticated_data (base64url (header_by e random)) e.aad in

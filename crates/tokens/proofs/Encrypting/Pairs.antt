@@ -5,14 +5,14 @@ use Rattle.std.proofs.lemmas.Bool.{and_from, or_left, le-leb}
 use Rattle.std.specs.List.{AllByRecursion, list_all, list_any}
 use Rattle.std.specs.Option.{option_or}
 use Rattle.ciphers.specs.Delivery.{key_tag_of}
-use Rattle.keys.specs.declared.algorithm.KeyManagementAlg.{KeyManagementAlg}
-use Rattle.keys.specs.declared.algorithm.KeyManagementMode.{KeyManagementMode}
-use Rattle.keys.specs.declared.algorithm.KeyManagementMode.TheVariants as mode
-use Rattle.keys.specs.Algorithms.{mode_of, is_password, is_password_based, management_algs}
+use Rattle.ciphers.specs.declared.key_alg.KeyAlg.{KeyAlg}
+use Rattle.ciphers.specs.declared.key_alg.KeyManagementMode.{KeyManagementMode}
+use Rattle.ciphers.specs.declared.key_alg.KeyManagementMode.TheVariants as mode
+use Rattle.ciphers.specs.Algorithms.{mode_of, is_password, is_password_based, management_algs}
 use Rattle.keys.specs.Keys.{OctetKey}
 use Rattle.keys.specs.Limits.{Limits}
 use Rattle.objects.specs.Jwe.{EncryptedObject}
-use Rattle.tokens.specs.Algorithms.{Algorithms, key_alg}
+use Rattle.tokens.specs.Algorithms.{Algorithms}
 use Rattle.tokens.specs.Choosing.{RecipientKey, password_count, EncryptionPlan}
 use Rattle.tokens.specs.Decrypting.{algorithms_of, is_candidate, Pair, pairs_of, all_pairs, has_pairs, iterations_by, iterations_of, all_iterations, pairs_to_try, SealedContent, sealed_content, opened_by, first_opened, decrypted}
 use Rattle.tokens.specs.Delivering.{delivered_in, drawn_for, parameters_with, management_with}
@@ -61,7 +61,7 @@ iterations_in mode.KeyWrap drawn p2c tag = refl
 iterations_in mode.Password drawn p2c tag = refl
 iterations_in mode.GcmKeyWrap drawn p2c tag = refl
 
-iterations_are : (alg : KeyManagementAlg) (drawn : List ℕ) (p2c : ℕ) (tag : List ℕ)
+iterations_are : (alg : KeyAlg) (drawn : List ℕ) (p2c : ℕ) (tag : List ℕ)
     → iterations_by (management_with alg drawn p2c tag) ≡ (if is_password_based alg then p2c else 0)
 iterations_are alg drawn p2c tag = iterations_in (mode_of alg) drawn p2c tag
 
@@ -88,7 +88,7 @@ take_at_most most e cek key (r ∷ rest) drawn few =
     by_test true all =
         let here = one_more most (is_password_based r.management) (password_count rest) e.p2c few.0 in
         let octets : List ℕ = take (drawn_for r) drawn in
-        let takes = iterations_are r.management octets e.p2c (key_tag_of (key_alg r.management) r.key.octets (parameters_with octets e.p2c) cek) in
+        let takes = iterations_are r.management octets e.p2c (key_tag_of r.management r.key.octets (parameters_with octets e.p2c) cek) in
         record { each_few = and_from _ _ (le-leb _ most (rw takes here.0)) all.each_few; all_few = omega (arith, takes, here.1, all.all_few) }
     by_test false all =
         let here = one_more most (is_password_based r.management) (password_count rest) e.p2c few.0 in

@@ -11,11 +11,11 @@ use Rattle.serde_json.specs.Find.{get_member, as_str, as_number, as_u64}
 use Rattle.octets.specs.Octets.{IsOctets}
 use Rattle.octets.specs.Base64url.{base64url, is_url_character}
 use Rattle.octets.proofs.Lemmas.{decodes_exactly, has_url_characters}
-use Rattle.keys.specs.declared.algorithm.ContentEncryptionAlg.{ContentEncryptionAlg}
-use Rattle.keys.specs.declared.algorithm.KeyManagementAlg.{KeyManagementAlg}
-use Rattle.keys.specs.declared.algorithm.KeyManagementMode.{KeyManagementMode}
-use Rattle.keys.specs.declared.algorithm.KeyManagementMode.TheVariants as mode
-use Rattle.keys.specs.Algorithms.{management_name, encryption_name, mode_of, is_password, is_password_based, management_algs}
+use Rattle.ciphers.specs.declared.content_alg.ContentAlg.{ContentAlg}
+use Rattle.ciphers.specs.declared.key_alg.KeyAlg.{KeyAlg}
+use Rattle.ciphers.specs.declared.key_alg.KeyManagementMode.{KeyManagementMode}
+use Rattle.ciphers.specs.declared.key_alg.KeyManagementMode.TheVariants as mode
+use Rattle.ciphers.specs.Algorithms.{management_name, encryption_name, mode_of, is_password, is_password_based, management_algs}
 use Rattle.keys.proofs.Lemmas.{url_texts_are_json}
 use Rattle.objects.specs.Headers.{all_members, joint_header, parameter_if_there, string_parameter, string_there, number_parameter, salt_parameter, octets_parameter}
 use Rattle.objects.specs.Jwe.{Recipient, recipient_by, recipient_of}
@@ -171,7 +171,7 @@ awaits_in named counted mode.KeyWrap name drawn p2c tag header is = tt
 awaits_in named counted mode.Password name drawn p2c tag header is = (is.no_salt, (is.count refl).there)
 awaits_in named counted mode.GcmKeyWrap name drawn p2c tag header is = (is.no_tag, is.no_iv)
 
-pub awaits_management : (named counted : Bool) (alg : KeyManagementAlg) (drawn : List ℕ) (p2c : ℕ) (tag : List ℕ) (header : Members)
+pub awaits_management : (named counted : Bool) (alg : KeyAlg) (drawn : List ℕ) (p2c : ℕ) (tag : List ℕ) (header : Members)
     → Awaits named counted (is_password_based alg) (management_name alg) p2c header → AwaitsManagement counted (management_with alg drawn p2c tag) header
 awaits_management named counted alg drawn p2c tag header is = awaits_in named counted (mode_of alg) (management_name alg) drawn p2c tag header is
 
@@ -213,7 +213,7 @@ parameters_in mode.KeyWrap drawn p2c tag octets long count tag_octets = tt
 parameters_in mode.Password drawn p2c tag octets long count tag_octets = let c = count refl in (octets, long, c.0, c.1)
 parameters_in mode.GcmKeyWrap drawn p2c tag octets long count tag_octets = (octets, tag_octets)
 
-pub are_parameters : (alg : KeyManagementAlg) (drawn : List ℕ) (p2c : ℕ) (tag : List ℕ) → IsOctets drawn → length drawn ≡ drawn_by alg
+pub are_parameters : (alg : KeyAlg) (drawn : List ℕ) (p2c : ℕ) (tag : List ℕ) → IsOctets drawn → length drawn ≡ drawn_by alg
     → (is_password_based alg ≡ true → (1 ≤ p2c) × (p2c < 2 ^ 64)) → IsOctets tag → AreParameters (management_with alg drawn p2c tag)
 are_parameters alg drawn p2c tag octets long count tag_octets = parameters_in (mode_of alg) drawn p2c tag octets long count tag_octets
 
@@ -270,7 +270,7 @@ header_with given d header is parameters =
     (no_crit given.alg given.p2c name d.management) (no_zip given.alg given.p2c name d.management))
 
 -- With the name of a content encryption, a header may still be written.
-pub header_with_enc : (given : Bool) (enc : ContentEncryptionAlg) (header : Members) → IsHeader header
+pub header_with_enc : (given : Bool) (enc : ContentAlg) (header : Members) → IsHeader header
     → IsHeader (put_onto header ((codes "enc", unless given (string (encryption_name enc))) ∷ []))
 header_with_enc given enc header is =
     let value : Data = string (encryption_name enc) in
@@ -314,13 +314,13 @@ read_in mode.KeyWrap drawn p2c tag header there is = refl
 read_in mode.Password drawn p2c tag header there is = read_password drawn p2c header there is
 read_in mode.GcmKeyWrap drawn p2c tag header there is = read_gcm_key_wrap drawn tag header there is
 
-read_management : (alg : KeyManagementAlg) (drawn : List ℕ) (p2c : ℕ) (tag : List ℕ) (header : Members)
+read_management : (alg : KeyAlg) (drawn : List ℕ) (p2c : ℕ) (tag : List ℕ) (header : Members)
     → HasManagement (management_with alg drawn p2c tag) header
     → AreParameters (management_with alg drawn p2c tag) → management_by (Some alg) header ≡ Ok (management_with alg drawn p2c tag)
 read_management alg drawn p2c tag header there is = read_in (mode_of alg) drawn p2c tag header there is
 
 -- the recipient of a delivery, with this header
-abbrev pub recipient : Members → Delivery → ContentEncryptionAlg → Recipient
+abbrev pub recipient : Members → Delivery → ContentAlg → Recipient
 recipient own d enc = record {
   header = own;
   encrypted_key = d.encrypted_key;
@@ -364,7 +364,7 @@ name_there named counted alg m header before members is =
     ∙ there_with as_str named (string alg) alg (get_member (codes "alg") before) refl is
 
 -- The recipient is read if the joint header has the parameters of the delivery.
-pub recipient_is_read : (given : Given) (alg : KeyManagementAlg) (drawn : List ℕ) (p2c : ℕ) (tag key : List ℕ) (enc : ContentEncryptionAlg)
+pub recipient_is_read : (given : Given) (alg : KeyAlg) (drawn : List ℕ) (p2c : ℕ) (tag key : List ℕ) (enc : ContentAlg)
     (p u own before : Members)
     → (let d : Delivery = record { alg = alg; management = management_with alg drawn p2c tag; encrypted_key = key } in
     IsJoint p u own (parameters_of given d) before → Awaits given.alg given.p2c (is_password_based alg) (management_name alg) p2c before

@@ -8,16 +8,16 @@ use Rattle.std.specs.Option.{unwrap_or}
 use Rattle.std.specs.Prelude.{◌&&◌, ◌||◌, ◌*◌, if◌then◌else◌}
 use Rattle.octets.specs.declared.refusal.Refusal.{Refusal}
 use Rattle.octets.specs.Outcomes.{needs}
-use Rattle.ciphers.specs.Sealing as ciphers
+use Rattle.ciphers.specs.Sealing.{cek_len}
 use Rattle.keys.specs.declared.algorithm.Algorithm.TheVariants.{Encryption as EncryptionWith}
-use Rattle.keys.specs.declared.algorithm.ContentEncryptionAlg.{ContentEncryptionAlg}
-use Rattle.keys.specs.declared.algorithm.KeyManagementAlg.TheVariants.{Dir}
-use Rattle.keys.specs.Algorithms.{is_password_based, management_operations}
+use Rattle.ciphers.specs.declared.content_alg.ContentAlg.{ContentAlg}
+use Rattle.ciphers.specs.declared.key_alg.KeyAlg.TheVariants.{Dir}
+use Rattle.ciphers.specs.Algorithms.{is_password_based}
+use Rattle.keys.specs.Algorithms.{management_operations}
 use Rattle.keys.specs.Keys.{allows, fits}
 use Rattle.keys.specs.Limits.{limits}
 use Rattle.keys.specs.Code.Views.{key_view}
 use Rattle.tokens.specs.declared.encrypt.recipient_key.RecipientKey.{RecipientKey as Code}
-use Rattle.tokens.specs.Algorithms.{content_alg}
 use Rattle.tokens.specs.Choosing.{is_direct, direct_key_is_alone, may_encrypt, password_count, p2c_may_be_written}
 use Rattle.tokens.specs.Encrypting.{direct_key}
 use Rattle.tokens.specs.Code.Views.{recipient_key_view}
@@ -55,7 +55,7 @@ list_any-map p h [] = refl
 list_any-map p h (y ∷ ys) = ap (λ others. p (h y) || others) (list_any-map p h ys)
 
 -- If all keys may encrypt, all of them fit.
-pub all_fit : (enc : ContentEncryptionAlg) (recipient_keys : List Code) → list_all (may_encrypt enc) (map recipient_key_view recipient_keys) ≡ true
+pub all_fit : (enc : ContentAlg) (recipient_keys : List Code) → list_all (may_encrypt enc) (map recipient_key_view recipient_keys) ≡ true
     → list_all (λ r. fits (key_view r.key.now) (EncryptionWith r.management enc)) recipient_keys ≡ true
 all_fit enc recipient_keys all =
     all_pass_other (λ r. may_encrypt enc (recipient_key_view r)) (λ r. fits (key_view r.key.now) (EncryptionWith r.management enc)) recipient_keys
@@ -106,9 +106,9 @@ all_counted p2c recipient_keys written = by_count (password_count (map recipient
         (λ r. or_right (not (is_password_based r.management)) (nat_le 1 p2c) some)
 
 -- A key that is used directly has the length of a content encryption key.
-pub direct_fits : (enc : ContentEncryptionAlg) (recipient_keys : List Code) (key : List ℕ)
+pub direct_fits : (enc : ContentAlg) (recipient_keys : List Code) (key : List ℕ)
     → list_all (λ r. fits (key_view r.key.now) (EncryptionWith r.management enc)) recipient_keys ≡ true
-    → direct_key (map recipient_key_view recipient_keys) ≡ Some key → length key ≡ ciphers.cek_len (content_alg enc)
+    → direct_key (map recipient_key_view recipient_keys) ≡ Some key → length key ≡ cek_len enc
 direct_fits enc [] key fit is = cc is
 direct_fits enc (r ∷ rest) key fit is =
     by_use (is_direct r.management) refl
@@ -117,7 +117,7 @@ direct_fits enc (r ∷ rest) key fit is =
   where
     by_use : (direct : Bool) → is_direct r.management ≡ direct → fits (key_view r.key.now) (EncryptionWith r.management enc) ≡ true
         → (if direct then Some (key_view r.key.now).octets else None) ≡ Some key
-        → length key ≡ ciphers.cek_len (content_alg enc)
+        → length key ≡ cek_len enc
     by_use true direct fit is =
         let same : (key_view r.key.now).octets ≡ key = cc is in
         ap length (sym same) ∙ direct_key_fits r.management enc (key_view r.key.now) direct fit

@@ -9,13 +9,13 @@ use Rattle.ciphers.specs.Delivery.{Parameters, key_tag_of, IsDelivered}
 use Rattle.ciphers.specs.Sealing.{IsOpening}
 use Rattle.ciphers.specs.declared.content_alg.ContentAlg.{ContentAlg}
 use Rattle.ciphers.specs.declared.key_alg.KeyAlg.{KeyAlg}
-use Rattle.keys.specs.Algorithms.{management_algs}
+use Rattle.ciphers.specs.Algorithms.{management_algs}
 use Rattle.keys.specs.Keys.{OctetKey, AreOctetKeys}
 use Rattle.objects.specs.Headers.{are_disjoint}
 use Rattle.objects.specs.Jwe.{RecipientParts, Recipient, recipient_of}
 use Rattle.objects.specs.Texts.{each}
 use Rattle.objects.proofs.Lemmas.{all_then, all_both, Entries}
-use Rattle.tokens.specs.Algorithms.{content_alg, key_alg, parameters_by}
+use Rattle.tokens.specs.Algorithms.{parameters_by}
 use Rattle.tokens.specs.Choosing.{RecipientKey, is_alone, EncryptionPlan}
 use Rattle.tokens.specs.Delivering.{drawn_for, parameters_with, Delivery, deliveries_to}
 use Rattle.tokens.specs.Encrypting.{random_len, for_recipients, cek_by, with_parameters, protected_header, per_recipient_header, header_of, recipient_parts_by, recipients_by}
@@ -51,11 +51,11 @@ pub record IsReady (e : EncryptionPlan) (cek : List ℕ) (x : RecipientKey × Li
 ready : OctetLaws → (e : EncryptionPlan) (cek : List ℕ) (x : RecipientKey × List ℕ) → IsDrawn (Receives e) x → Delivers e cek x → IsReady e cek x
 ready laws e cek x drawn delivers =
     let alg = x.0.management in
-    let tag : List ℕ = key_tag_of (key_alg alg) x.0.key.octets (parameters_with x.1 e.p2c) cek in
-    let both = laws.delivering (key_alg alg) (content_alg e.encryption) x.0.key.octets (parameters_by (delivery e cek x).management)
+    let tag : List ℕ = key_tag_of alg x.0.key.octets (parameters_with x.1 e.p2c) cek in
+    let both = laws.delivering alg e.encryption x.0.key.octets (parameters_by (delivery e cek x).management)
     (delivery e cek x).encrypted_key cek
     delivers.key delivers.iv delivers.delivers in
-    let tag_octets : IsOctets tag = subst IsOctets (tag_alike (content_alg e.encryption) x.0.key.octets x.1 e.p2c cek alg tag) both.1 in
+    let tag_octets : IsOctets tag = subst IsOctets (tag_alike e.encryption x.0.key.octets x.1 e.p2c cek alg tag) both.1 in
     record {
       receives = drawn.holds;
       delivers = delivers;

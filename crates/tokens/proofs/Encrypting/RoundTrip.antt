@@ -8,13 +8,14 @@ use Rattle.octets.proofs.Lemmas.{IsOctets-take, steps, same_answer}
 use Rattle.ciphers.specs.Openings.{OpensExactly, DeliversExactly}
 use Rattle.ciphers.specs.Sealing.{IsOpening}
 use Rattle.keys.specs.declared.algorithm.Algorithm.TheVariants.{Encryption as EncryptionWith}
-use Rattle.keys.specs.Algorithms.{management_operations, management_algs}
+use Rattle.ciphers.specs.Algorithms.{management_algs}
+use Rattle.keys.specs.Algorithms.{management_operations}
 use Rattle.keys.specs.Keys.{OctetKey, AreOctetKeys, allows, fits}
 use Rattle.keys.specs.Limits.{Limits}
 use Rattle.objects.specs.Jwe.{JweParts, EncryptedObject, built, json_text, jwe_of, AreMembers, TextsSpellObjects, jwe_text}
 use Rattle.objects.specs.Texts.{handed_in}
 use Rattle.objects.proofs.Lemmas.{all_both}
-use Rattle.tokens.specs.Algorithms.{content_alg, key_alg, parameters_by}
+use Rattle.tokens.specs.Algorithms.{parameters_by}
 use Rattle.tokens.specs.Choosing.{RecipientKey, password_count, EncryptionPlan}
 use Rattle.tokens.specs.Decrypting.{all_pairs, is_candidate, SealedContent, sealed_content, cek_of, opened_by, decrypted}
 use Rattle.tokens.specs.Delivering.{drawn_for}
@@ -59,19 +60,19 @@ candidate_is e r may fit = rw (may, fit) refl
 
 -- A recipient that is delivered the key opens the sealed plaintext.
 opened_is : Laws → (e : EncryptionPlan) (cek : List ℕ) (x : RecipientKey × List ℕ) (s : SealedContent) (plaintext : List ℕ) → IsOctets s.iv → Delivers e cek x
-    → IsOpening (content_alg e.encryption) cek s.iv s.aad s.ciphertext s.tag plaintext → opened_by s (pair_by e cek x.0.key x) ≡ Some plaintext
+    → IsOpening e.encryption cek s.iv s.aad s.ciphertext s.tag plaintext → opened_by s (pair_by e cek x.0.key x) ≡ Some plaintext
 unfolding opened_by cek_of
 opened_is laws e cek x s plaintext start is opens =
     let r = made_by e cek x in
-    rw ((laws.delivers (key_alg x.0.management) (content_alg e.encryption) x.0.key.octets (parameters_by r.management) r.encrypted_key cek is.key).1
+    rw ((laws.delivers x.0.management e.encryption x.0.key.octets (parameters_by r.management) r.encrypted_key cek is.key).1
     is.delivers)
-    ((laws.opens (content_alg e.encryption) cek s.iv s.aad s.ciphertext s.tag plaintext is.delivers.octets start).1 opens)
+    ((laws.opens e.encryption cek s.iv s.aad s.ciphertext s.tag plaintext is.delivers.octets start).1 opens)
 
 -- A recipient's key that may decrypt opens the plaintext.
 key_opens : Laws → (e : EncryptionPlan) (cek : List ℕ) (key : OctetKey) (x : RecipientKey × List ℕ) (s : SealedContent) (plaintext : List ℕ)
     → IsOctets s.iv → Receives e x.0
     → (x.0.key ≡ key → allows key (management_operations x.0.management).1 ≡ true) → Delivers e cek x
-    → IsOpening (content_alg e.encryption) cek s.iv s.aad s.ciphertext s.tag plaintext → Opens e cek key s plaintext x
+    → IsOpening e.encryption cek s.iv s.aad s.ciphertext s.tag plaintext → Opens e cek key s plaintext x
 key_opens laws e cek key x s plaintext start receives may delivers opens same =
     let may_own : allows x.0.key (management_operations x.0.management).1 ≡ true = rw same (may same) in
     subst (λ k. (is_candidate (algorithms_by e x.0) k ≡ true) × (opened_by s (pair_by e cek k x) ≡ Some plaintext)) same

@@ -11,9 +11,10 @@ use Rattle.octets.specs.declared.refusal.Refusal.TheVariants.{Header, KeyDoesNot
 use Rattle.octets.specs.Octets.{IsOctets}
 use Rattle.octets.specs.Outcomes.{needs}
 use Rattle.keys.specs.declared.algorithm.Algorithm.TheVariants.{Encryption as EncryptionWith}
-use Rattle.keys.specs.declared.algorithm.ContentEncryptionAlg.{ContentEncryptionAlg}
-use Rattle.keys.specs.declared.algorithm.KeyManagementAlg.{KeyManagementAlg}
-use Rattle.keys.specs.Algorithms.{management_name, encryption_name, is_password_based, management_operations}
+use Rattle.ciphers.specs.declared.content_alg.ContentAlg.{ContentAlg}
+use Rattle.ciphers.specs.declared.key_alg.KeyAlg.{KeyAlg}
+use Rattle.ciphers.specs.Algorithms.{management_name, encryption_name, is_password_based}
+use Rattle.keys.specs.Algorithms.{management_operations}
 use Rattle.keys.specs.Json.{json_value}
 use Rattle.keys.specs.Keys.{OctetKey, allows, fits}
 use Rattle.keys.specs.Limits.{Limits}
@@ -66,14 +67,14 @@ pub record TakesFew (limits : Limits) (e : EncryptionPlan) : Type 0 where
 -- ---- the algorithms
 
 -- A recipient key has the key that it was made of.
-key_is : (asked : Option KeyManagementAlg) (key : OctetKey) (r : RecipientKey) → recipient_key_by asked key ≡ Ok r → r.key ≡ key
+key_is : (asked : Option KeyAlg) (key : OctetKey) (r : RecipientKey) → recipient_key_by asked key ≡ Ok r → r.key ≡ key
 unfolding recipient_key_by
 key_is asked key r h =
     let a = steps (chosen_management asked key) _ r h in
     ap (λ (r : RecipientKey). r.key) (sym (same_answer _ r a.2))
 
 -- If the template names a key management algorithm, a recipient key has it.
-management_kept : (asked : Option KeyManagementAlg) (key : OctetKey) (r : RecipientKey) → recipient_key_by asked key ≡ Ok r → (a : KeyManagementAlg)
+management_kept : (asked : Option KeyAlg) (key : OctetKey) (r : RecipientKey) → recipient_key_by asked key ≡ Ok r → (a : KeyAlg)
     → asked ≡ Some a → a ≡ r.management
 unfolding recipient_key_by
 management_kept None key r h a e = cc e
@@ -83,9 +84,9 @@ management_kept (Some b) key r h a e =
     sym asks ∙ ap (λ (r : RecipientKey). r.management) same
 
 -- If the template names a content encryption, it is chosen. There is a recipient key.
-encryption_kept : (asked : Option ContentEncryptionAlg) (recipient_keys : List RecipientKey) (enc : ContentEncryptionAlg)
+encryption_kept : (asked : Option ContentAlg) (recipient_keys : List RecipientKey) (enc : ContentAlg)
     → encryption_for asked recipient_keys ≡ Ok enc
-    → (1 ≤ length recipient_keys) × ((a : ContentEncryptionAlg) → asked ≡ Some a → a ≡ enc)
+    → (1 ≤ length recipient_keys) × ((a : ContentAlg) → asked ≡ Some a → a ≡ enc)
 encryption_kept asked [] enc h = cc h
 encryption_kept None (r ∷ rest) enc h = (omega arith, λ a e. cc e)
 encryption_kept (Some b) (r ∷ rest) enc h = (omega arith, λ a e. cc (e, h))
@@ -108,7 +109,7 @@ password_counts (r ∷ rest) n few = by_test (is_password_based r.management) re
 -- ---- everything that is settled
 
 -- the encryption with these recipient keys, algorithms and headers
-abbrev encryption_by : EncryptionTemplate → List RecipientKey → ContentEncryptionAlg → ℕ → Members → EncryptionPlan
+abbrev encryption_by : EncryptionTemplate → List RecipientKey → ContentAlg → ℕ → Members → EncryptionPlan
 encryption_by t recipient_keys encryption p2c protected = record {
   encryption = encryption;
   recipient_keys = recipient_keys;
@@ -124,7 +125,7 @@ abbrev pub holds_no_more : Bool → EncryptionPlan → Bool
 holds_no_more compact e = if compact then is_alone e.recipient_keys && (is_empty e.unprotected && (length e.aad == 0)) else true
 
 -- the protected header with the name of the content encryption
-abbrev with_enc : EncryptionTemplate → ContentEncryptionAlg → Members
+abbrev with_enc : EncryptionTemplate → ContentAlg → Members
 with_enc t enc = with_name (is_some t.asked.encryption) (codes "enc") (encryption_name enc) t.protected
 
 -- A recipient key that may encrypt and whose parameters are awaited receives the content encryption key.
@@ -173,7 +174,7 @@ module _ (limits : Limits) (sound : AreSound limits) where
   awaits : (p u : Members) (asked : AlgorithmsAsked) (recipient_keys : List RecipientKey) (p2c : ℕ) → Asks p u asked
       → chosen_p2c limits (password_count recipient_keys) asked.p2c ≡ Ok p2c
       → p2c_may_be_written limits (password_count recipient_keys) p2c ≡ true → (r : RecipientKey)
-      → ((a : KeyManagementAlg) → asked.management ≡ Some a → a ≡ r.management)
+      → ((a : KeyAlg) → asked.management ≡ Some a → a ≡ r.management)
       → (is_password_based r.management ≡ true → 1 ≤ password_count recipient_keys)
       → Awaits (is_some asked.management) (is_given asked.p2c) (is_password_based r.management) (management_name r.management) p2c (all_members p u no_members)
   awaits p u asked recipient_keys p2c is chosen written r named some =
@@ -187,7 +188,7 @@ module _ (limits : Limits) (sound : AreSound limits) where
       }
 
   -- the choices for a template and keys, one step after another
-  record IsChosen (compact : Bool) (keys : List OctetKey) (t : EncryptionTemplate) (recipient_keys : List RecipientKey) (enc : ContentEncryptionAlg)
+  record IsChosen (compact : Bool) (keys : List OctetKey) (t : EncryptionTemplate) (recipient_keys : List RecipientKey) (enc : ContentAlg)
       (p2c : ℕ) : Type 0 where
     by_keys : each (recipient_key_by t.asked.management) keys ≡ Ok recipient_keys
     together : direct_key_is_alone recipient_keys ≡ true
@@ -200,7 +201,7 @@ module _ (limits : Limits) (sound : AreSound limits) where
 
   -- An encryption that is settled consists of the choices of these steps.
   chosen : (compact : Bool) (keys : List OctetKey) (t : EncryptionTemplate) (e : EncryptionPlan) → settle_encryption limits compact keys t ≡ Ok e
-      → (recipient_keys : List RecipientKey) × (enc : ContentEncryptionAlg) × (p2c : ℕ) × IsChosen compact keys t recipient_keys enc p2c
+      → (recipient_keys : List RecipientKey) × (enc : ContentAlg) × (p2c : ℕ) × IsChosen compact keys t recipient_keys enc p2c
       × (encryption_by t recipient_keys enc p2c (with_enc t enc) ≡ e)
   unfolding settle_encryption
   chosen compact keys t e h =
@@ -225,7 +226,7 @@ module _ (limits : Limits) (sound : AreSound limits) where
       (recipient_keys.0, encryption.0, p2c.0, all, same_answer _ e alone.2)
 
   -- An encryption with these choices is settled.
-  settled_by : (compact : Bool) (keys : List OctetKey) (t : EncryptionTemplate) (rs : List RecipientKey) (enc : ContentEncryptionAlg) (p2c : ℕ) → IsTemplate t
+  settled_by : (compact : Bool) (keys : List OctetKey) (t : EncryptionTemplate) (rs : List RecipientKey) (enc : ContentAlg) (p2c : ℕ) → IsTemplate t
       → IsChosen compact keys t rs enc p2c
       → Settles keys (encryption_by t rs enc p2c (with_enc t enc)) × TakesFew limits (encryption_by t rs enc p2c (with_enc t enc))
   settled_by compact keys t rs enc p2c is by =
@@ -241,7 +242,7 @@ module _ (limits : Limits) (sound : AreSound limits) where
       (free_unless given header (codes "enc") value (not_given as_str given (get_member (codes "enc") header) (encryption_name enc) enc_there), tt) in
       let both = and_parts (is_shallow limits t.protected) (is_shallow limits t.unprotected) by.shallow in
       let e : EncryptionPlan = encryption_by t rs enc p2c (put_onto t.protected entry) in
-      let named_each : AllByRecursion (λ r. (a : KeyManagementAlg) → t.asked.management ≡ Some a → a ≡ r.management) rs =
+      let named_each : AllByRecursion (λ r. (a : KeyAlg) → t.asked.management ≡ Some a → a ≡ r.management) rs =
       each_gives (recipient_key_by t.asked.management) (management_kept t.asked.management) keys rs by.by_keys in
       let counts = password_counts rs (password_count rs) (omega arith) in
       let awaits_each : AllByRecursion (AwaitsRecipient e) rs =

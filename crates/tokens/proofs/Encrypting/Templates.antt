@@ -10,7 +10,8 @@ use Rattle.octets.specs.Octets.{IsOctets}
 use Rattle.octets.specs.Outcomes.{◌>>=◌, needs, if_there}
 use Rattle.octets.specs.Base64url.{decoded}
 use Rattle.octets.proofs.Lemmas.{IsOctets-nil, octets_of_meaning, steps, passed, same_answer}
-use Rattle.keys.specs.Algorithms.{management_name, encryption_name, management_alg_of, encryption_alg_of, supported}
+use Rattle.ciphers.specs.Algorithms.{management_name, encryption_name, management_alg_of, encryption_alg_of}
+use Rattle.keys.specs.Algorithms.{supported}
 use Rattle.keys.specs.Json.{is_object, has_only}
 use Rattle.keys.specs.JsonTexts.{IsJson, AreJsonMembers}
 use Rattle.keys.proofs.Lemmas.{octets_of_utf8, keep_json}

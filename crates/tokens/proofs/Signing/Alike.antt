@@ -6,7 +6,7 @@ use Rattle.octets.specs.declared.refusal.Refusal.{Refusal}
 use Rattle.octets.specs.declared.refusal.Refusal.TheVariants.{Json, Number, Form, Unsupported, Limit, NotCompact}
 use Rattle.octets.specs.Base64url.{decoded}
 use Rattle.octets.specs.Outcomes.{◌>>=◌, needs}
-use Rattle.keys.specs.declared.algorithm.KeyManagementAlg.{KeyManagementAlg}
+use Rattle.ciphers.specs.declared.key_alg.KeyAlg.{KeyAlg}
 use Rattle.keys.specs.Json.{member_numbers_are_whole}
 use Rattle.keys.specs.Limits.{Limits, are_few}
 use Rattle.objects.specs.Code.Frames.{with_octets, signed_with}
@@ -93,7 +93,7 @@ headed_alike d v = by_answer (protected_members d.octets)
     by_answer (Ok own) = refl
     by_answer (Err e) = refl
 
-signature_alike : (algs : List KeyManagementAlg) (h : HeadedSignature) (v : List ℕ)
+signature_alike : (algs : List KeyAlg) (h : HeadedSignature) (v : List ℕ)
     → signature_by algs (put_headed h v) ≡ (signature_by algs h >>= λ s. Ok (put_octets s v))
 unfolding signature_by
 signature_alike algs h v = by_header (joint_header h.members no_members h.parts.header)
@@ -116,7 +116,7 @@ signature_alike algs h v = by_header (joint_header h.members no_members h.parts.
     by_header (Ok header) = by_alg header (string_there (codes "alg") header)
     by_header (Err e) = refl
 
-signatures_alike : (algs : List KeyManagementAlg) (ds : List DecodedSignature) (values : List (List ℕ))
+signatures_alike : (algs : List KeyAlg) (ds : List DecodedSignature) (values : List (List ℕ))
     → signatures_of algs (with_all put_decoded ds values) ≡ (signatures_of algs ds >>= λ ss. Ok (with_all put_octets ss values))
 unfolding signatures_of
 signatures_alike algs ds values = rw (each-with_all headed_signature put_decoded put_headed headed_alike ds values) (by_headed (each headed_signature ds))

@@ -19,7 +19,8 @@ use Rattle.objects.specs.Texts.{handed_out}
 use Rattle.objects.specs.Code.Writing.{Written, all_texts}
 use Rattle.objects.specs.Code.JwsWriting.{jws_written}
 use Rattle.objects.proofs.Lemmas.{signature_spelled, parts_spelled, spelled, jws_is_built, object_keeps, jws_refused}
-use Rattle.tokens.specs.Signatures.{signature_hash, signature_of}
+use Rattle.keys.specs.Algorithms.{signature_hash}
+use Rattle.tokens.specs.Signatures.{signature_of}
 use Rattle.tokens.specs.Signing.{Signer, Signing, protected_by, signature_by, signed, text_before, written_of, plan_by, read_signing, sig_plan}
 use Rattle.tokens.specs.Code.SigningInputs.{signature_text, start_of, unsigned_protected, unsigned_part_by, unsigned_by}
 use Rattle.octets.proofs.Lemmas.{IsOctets-nil, first_or}

@@ -7,7 +7,7 @@ use Rattle.octets.specs.Base64url.{base64url}
 use Rattle.octets.specs.Devices.{AppendsPrefixOf}
 use Rattle.octets.proofs.Lemmas.{AppendsPrefixOf-front, AppendsPrefixOf-part}
 use Rattle.objects.specs.Code.Frames.{filled}
-use Rattle.tokens.specs.Signatures.{signature_hash}
+use Rattle.keys.specs.Algorithms.{signature_hash}
 use Rattle.tokens.specs.Code.SigningInputs.{InputStart, HoldEach, signature_text}
 
 -- the part of a text that is still to be written to an output

@@ -2,7 +2,7 @@
 use Rattle.std.proofs.Common.{ℕ, zero, suc, ◌<◌, List, [], ◌∷◌, ◌++◌, length, codes, set, slice_index_or, subst, arith, append_assoc}
 use Rattle.std.specs.Bool.{⊤}
 use Rattle.prf.specs.HashFunction.{HashFunction}
-use Rattle.tokens.specs.Signatures.{signature_hash}
+use Rattle.keys.specs.Algorithms.{signature_hash}
 use Rattle.tokens.specs.Code.SigningInputs.{InputStart, HoldEach}
 
 module _ {S : Type 0} (has_taken : S → HashFunction → List ℕ → List ℕ → Type 0) where

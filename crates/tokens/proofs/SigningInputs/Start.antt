@@ -1,7 +1,7 @@
 -- Signing inputs that are started one after another.
 use Rattle.std.proofs.Common.{◌≡◌, ℕ, List, [], ◌∷◌, ◌++◌, map, codes, sym, ap, subst, ◌∙◌, append_assoc, append-nil}
 use Rattle.prf.specs.HashFunction.{HashFunction}
-use Rattle.tokens.specs.Signatures.{signature_hash}
+use Rattle.keys.specs.Algorithms.{signature_hash}
 use Rattle.tokens.specs.Signing.{Signer, protected_by}
 use Rattle.tokens.specs.Code.SigningInputs.{InputStart, HoldEach, start_of}
 

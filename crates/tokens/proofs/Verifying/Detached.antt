@@ -1,6 +1,5 @@
 -- Signing inputs of the candidate pairs of a key and a head, which are consumed from the front.
-use Rattle.std.proofs.Common.{◌≡◌, ℕ, List, [], ◌∷◌, ◌++◌, codes, Bool, true, false, not, ◌&&◌, ◌||◌, Option, Some, None, is_none, Result, Ok, Err}
-use Rattle.std.proofs.Common.{refl, sym, ap, subst, ◌∙◌, append_assoc}
+use Rattle.std.proofs.Common.{◌≡◌, ℕ, List, [], ◌∷◌, ◌++◌, codes, Bool, true, false, not, ◌&&◌, ◌||◌, Option, Some, None, is_none, Result, Ok, Err, refl, sym, ap, subst, ◌∙◌, append_assoc}
 use Rattle.std.proofs.Math.Bool.{beq}
 use Rattle.std.specs.List.{list_any, list_all}
 use Rattle.prf.specs.HashFunction.{HashFunction}
@@ -12,7 +11,8 @@ use Rattle.octets.specs.Base64url.{base64url}
 use Rattle.keys.specs.declared.algorithm.SignatureAlg.{SignatureAlg}
 use Rattle.keys.specs.Keys.{OctetKey}
 use Rattle.objects.specs.Jws.{Signature, SignedObject}
-use Rattle.tokens.specs.Signatures.{signature_hash, signature_of}
+use Rattle.keys.specs.Algorithms.{signature_hash}
+use Rattle.tokens.specs.Signatures.{signature_of}
 use Rattle.tokens.specs.Code.SigningInputs.{InputStart, HoldEach}
 use Rattle.tokens.specs.Verifying.{verifies, are_verified, verified_payload, verifying_by}
 use Rattle.tokens.specs.Code.Heads.{is_one_of}

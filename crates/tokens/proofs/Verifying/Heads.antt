@@ -1,6 +1,5 @@
 -- The HMACs of heads decide which signatures a key made.
-use Rattle.std.proofs.Common.{◌≡◌, ℕ, ◌+◌, ◌<◌, Bool, true, false, not, List, [], ◌∷◌, ◌++◌, length, map, take, get_or, Option, Some, None}
-use Rattle.std.proofs.Common.{◌&&◌, ◌||◌, if◌then◌else◌, refl, sym, ap, subst, ◌∙◌}
+use Rattle.std.proofs.Common.{◌≡◌, ℕ, ◌+◌, ◌<◌, Bool, true, false, not, List, [], ◌∷◌, ◌++◌, length, map, take, get_or, Option, Some, None, ◌&&◌, ◌||◌, if◌then◌else◌, refl, sym, ap, subst, ◌∙◌}
 use Rattle.std.proofs.lemmas.Bool.{and_parts, and_from}
 use Rattle.std.proofs.lemmas.Bool.Decides.{same_from_decides, Decides-eqb}
 use Rattle.std.proofs.lemmas.List.{take_more, map-append}
@@ -12,14 +11,14 @@ use Rattle.std.specs.List.{Any, list_any}
 use Rattle.std.specs.Str.{bytes_eq}
 use Rattle.prf.specs.Hmac.{hmac}
 use Rattle.keys.specs.declared.algorithm.SignatureAlg.{SignatureAlg}
-use Rattle.keys.specs.Algorithms.{signature_alg_of}
+use Rattle.keys.specs.Algorithms.{signature_alg_of, hash_len}
 use Rattle.keys.specs.Keys.{OctetKey}
 use Rattle.objects.specs.declared.jws.signature.Signature.{Signature as CodeSignature}
 use Rattle.objects.specs.Jws.{Signature}
 use Rattle.objects.specs.Code.Views.{signature_view}
 use Rattle.tokens.specs.Signatures.{signature_of}
 use Rattle.tokens.specs.Verifying.{candidate_by, candidate_alg, is_candidate, verifies_by, verifies}
-use Rattle.tokens.specs.Code.Heads.{signature_len, has_len_by, has_signature_len, is_alike, is_covered, covers, made_by, has_made_alike, pointed_views}
+use Rattle.tokens.specs.Code.Heads.{has_len_by, has_signature_len, is_alike, is_covered, covers, made_by, has_made_alike, pointed_views}
 use Rattle.tokens.proofs.AlgorithmCases.{signature_hash_law}
 use Rattle.tokens.proofs.Elements.{list_any-map}
 
@@ -88,7 +87,7 @@ covers_by_one_more heads signatures i s lt is before =
 -- ---- the signatures that a key made
 
 -- An HMAC has the length of its algorithm.
-length-signature_of : (alg : SignatureAlg) (key protected payload : List ℕ) → length (signature_of alg key protected payload) ≡ signature_len alg
+length-signature_of : (alg : SignatureAlg) (key protected payload : List ℕ) → length (signature_of alg key protected payload) ≡ hash_len alg
 unfolding signature_of hmac
 length-signature_of alg key protected payload = (signature_hash_law alg).digests _
 
@@ -111,7 +110,7 @@ module _ (payload : List ℕ) (key : OctetKey) where
       by : (b : Bool) → verifies_by (if b then Some alg else None) payload s key ≡ true → has_len_by (Some alg) s ≡ true
       by true h =
           let len = ap length ((bytes_eq-Decides s.signature (mac alg s)).0 h) ∙ length-signature_of alg key.octets s.protected payload in
-          (Decides-eqb (length s.signature) (signature_len alg)).1 len
+          (Decides-eqb (length s.signature) (hash_len alg)).1 len
       by false h = cc h
 
   -- If the HMAC of a head is a signature that is alike to it, that signature verifies.

@@ -5,7 +5,8 @@ use Rattle.std.specs.List.{list_any}
 use Rattle.std.specs.Str.{bytes_eq}
 use Rattle.prf.specs.HashFunction.{HashFunction}
 use Rattle.prf.specs.Hmac.{hmac, key_block, xor_each}
-use Rattle.tokens.specs.Signatures.{signature_hash, signature_of, signing_input}
+use Rattle.keys.specs.Algorithms.{signature_hash}
+use Rattle.tokens.specs.Signatures.{signature_of, signing_input}
 use Rattle.tokens.specs.Signers.{are_distinct, AlikeKeysSignAlike}
 
 same_hmac : (f : HashFunction) (a b text : List ℕ) → key_block f a ≡ key_block f b → hmac f a text ≡ hmac f b text

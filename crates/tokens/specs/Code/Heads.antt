@@ -5,23 +5,19 @@ use Rattle.std.specs.Borrow.{Bor}
 use Rattle.std.specs.List.{list_any, list_all}
 use Rattle.std.specs.Str.{bytes_eq}
 use Rattle.keys.specs.declared.algorithm.SignatureAlg.{SignatureAlg}
-use Rattle.keys.specs.Algorithms.{signature_alg_of}
+use Rattle.keys.specs.Algorithms.{signature_alg_of, hash_len}
 use Rattle.keys.specs.Keys.{OctetKey}
 use Rattle.objects.specs.declared.jws.signature.Signature.{Signature as CodeSignature}
 use Rattle.objects.specs.Jws.{Signature}
 use Rattle.objects.specs.Code.Views.{signature_view}
 use Rattle.tokens.specs.declared.verify.heads.Heads.{Heads}
-use Rattle.tokens.specs.Signatures.{signature_hash, signature_of}
+use Rattle.tokens.specs.Signatures.{signature_of}
 use Rattle.tokens.specs.Verifying.{candidate_alg}
-
--- the length of an HMAC in octets: that of its hash's output (RFC 7518 section 3.2)
-abbrev pub signature_len : SignatureAlg → ℕ
-signature_len alg = (signature_hash alg).output_len
 
 -- the signature has the length of its algorithm's HMAC, if the algorithm is supported
 abbrev pub has_len_by : Option SignatureAlg → Signature → Bool
 has_len_by None s = false
-has_len_by (Some alg) s = length s.signature == signature_len alg
+has_len_by (Some alg) s = length s.signature == hash_len alg
 
 abbrev pub has_signature_len : Signature → Bool
 has_signature_len s = has_len_by (signature_alg_of s.alg) s

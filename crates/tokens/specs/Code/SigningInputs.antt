@@ -17,7 +17,8 @@ use Rattle.serde_json.specs.Data.{Members}
 use Rattle.keys.specs.Limits.{Limits, limits}
 use Rattle.objects.specs.Code.Frames.{IsJwsFrame, jws_frame}
 use Rattle.objects.specs.Jws.{Signature, SignatureParts, SignedObject, built}
-use Rattle.tokens.specs.Signatures.{signature_hash}
+use Rattle.objects.specs.Code.Making.{made_object}
+use Rattle.keys.specs.Algorithms.{signature_hash, signature_name}
 use Rattle.tokens.specs.Signing.{Signer, Signing, protected_by, plan_by}
 
 -- a statement on the HMAC of this variant
@@ -80,6 +81,19 @@ unsigned_part_by header s = record { protected = protected_by s; header = header
 
 unfoldable pub unsigned_by : Limits → Signing → Result SignedObject Refusal
 unsigned_by limits s = built limits (record { payload = []; signatures = map (unsigned_part_by s.header) s.signers })
+
+-- a signature without its octets, with the members of its protected header and the name of its algorithm
+abbrev pub unsigned_signature : Members → Signer → Signature
+unsigned_signature header s = record {
+  protected = protected_by s;
+  protected_members = s.protected;
+  header = header;
+  signature = [];
+  alg = signature_name s.alg;
+}
+
+abbrev pub unsigned_object : Signing → SignedObject
+unsigned_object s = made_object [] (map (unsigned_signature s.header) s.signers)
 
 abbrev pub unsigned_protected : List Signature → List (List ℕ)
 unsigned_protected signatures = map (λ s. s.protected) signatures

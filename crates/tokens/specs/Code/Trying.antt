@@ -1,13 +1,14 @@
 -- The order in which pairs are tried, and what is known of earlier ones.
-use Rattle.std.specs.Prelude.{◌≡◌, ℕ, ◌+◌, ◌<◌, ◌&&◌, Bool, nat_le, List, length, get_or, map, None, ⊤}
+use Rattle.std.specs.Prelude.{◌≡◌, ℕ, ◌+◌, ◌<◌, ◌&&◌, Bool, nat_le, List, [], ◌∷◌, length, get_or, map, None, ⊤}
 use Rattle.std.specs.List.{list_all}
 use Rattle.ciphers.specs.Code.Salted.{Salted}
 use Rattle.keys.specs.Keys.{OctetKey}
+use Rattle.keys.specs.Code.Views.{key_view}
 use Rattle.keys.specs.Limits.{limits}
 use Rattle.objects.specs.Code.Frames.{sealed_with}
 use Rattle.objects.specs.Jwe.{Recipient, EncryptedObject}
 use Rattle.objects.specs.KeyManagement.{KeyManagement, Password}
-use Rattle.tokens.specs.Decrypting.{Pair, SealedContent, algorithms_of, all_iterations, first_opened, iterations_of, pairs_of}
+use Rattle.tokens.specs.Decrypting.{Pair, SealedContent, algorithms_of, all_iterations, first_opened, iterations_of, pairs_of, pairs_with}
 use Rattle.objects.specs.declared.jwe.recipient.Recipient.{Recipient as CodeRecipient}
 use Rattle.objects.specs.Code.Views.{recipient_view}
 use Rattle.tokens.specs.declared.decrypt.Work.{Work}
@@ -27,15 +28,19 @@ salted_with p2s s = record { key = s.key; p2s = p2s }
 abbrev pub salted_by : List ℕ → OctetKey → Salted
 salted_by p2s key = record { key = key.octets; p2s = p2s }
 
--- these are the keys, in order, with one salt
-abbrev pub AreSalted : List OctetKey → SaltedKeys → Type 0
-AreSalted keys s = s.keys.items ≡ map (salted_by s.p2s.now) keys
+-- each key is salted, in order, with one salt
+abbrev pub AreSalted : SaltedKeys → Type 0
+AreSalted s = s.salted.items ≡ map (salted_by s.p2s.now) (map key_view s.keys.now)
 
 -- Both recipients have the same pairs, but for what these do not read.
 pub record OpenAlike (a b : Recipient) : Type 0 where
   pub algorithms : algorithms_of limits.management a ≡ algorithms_of limits.management b
   pub management : a.management ≡ b.management
   pub encrypted_key : a.encrypted_key ≡ b.encrypted_key
+
+-- the pair, if its key is a candidate
+abbrev pub pair_if_candidate : Pair → List Pair
+pair_if_candidate pair = pairs_with pair.recipient pair.algorithms (pair.key ∷ [])
 
 -- the object with this ciphertext
 abbrev pub with_ciphertext : List ℕ → EncryptedObject → EncryptedObject

@@ -2,10 +2,10 @@
 use Rattle.std.specs.Prelude.{ℕ, ◌+◌, ◌*◌, ◌≤◌, List, [], ◌∷◌, is_some, if◌then◌else◌, Result, Ok, Err}
 use Rattle.octets.specs.declared.refusal.Refusal.{Refusal}
 use Rattle.octets.specs.declared.refusal.Refusal.TheVariants.{Memory}
-use Rattle.keys.specs.declared.algorithm.KeyManagementAlg.{KeyManagementAlg}
-use Rattle.keys.specs.declared.algorithm.KeyManagementMode.{KeyManagementMode}
-use Rattle.keys.specs.declared.algorithm.KeyManagementMode.TheVariants as mode
-use Rattle.keys.specs.Algorithms.{mode_of}
+use Rattle.ciphers.specs.declared.key_alg.KeyAlg.{KeyAlg}
+use Rattle.ciphers.specs.declared.key_alg.KeyManagementMode.{KeyManagementMode}
+use Rattle.ciphers.specs.declared.key_alg.KeyManagementMode.TheVariants as mode
+use Rattle.ciphers.specs.Algorithms.{mode_of}
 use Rattle.keys.specs.Limits.{limits}
 use Rattle.objects.specs.Jwe.{EncryptedObject}
 use Rattle.tokens.specs.Decrypting.{Pair, iterations_of, SealedContent, sealed_content, cek_of, opened_by}
@@ -30,7 +30,7 @@ unwraps_in mode.KeyWrap = 1
 unwraps_in mode.Password = 1
 unwraps_in mode.GcmKeyWrap = 1
 
-abbrev pub unwraps_of : KeyManagementAlg → ℕ
+abbrev pub unwraps_of : KeyAlg → ℕ
 unwraps_of alg = unwraps_in (mode_of alg)
 
 -- with one pair more, which opens or tries the content if it delivers a content encryption key

@@ -13,9 +13,8 @@ ghost use Rattle.tokens.specs.Code.Trying.{within_to};
 ghost use Rattle.tokens.specs.Code.Views.{algorithms_view};
 
 use crate::algorithms::Algorithms;
-use keys::{
-    Algorithm, ContentEncryptionAlg, GREATEST_P2C_READ, Key, KeyManagementAlg, MOST_ITERATIONS,
-};
+use ciphers::{ContentAlg, KeyAlg};
+use keys::{Algorithm, GREATEST_P2C_READ, Key, MOST_ITERATIONS, Operation};
 use objects::{KeyManagement, Recipient};
 use octets::{Refusal, needs};
 
@@ -131,8 +130,8 @@ pub(crate) fn algorithms_of(recipient: &Recipient) -> Option<Algorithms>
     ensures of_alg { IfSome result (λ a. is_management_of (Some a.management) (recipient_view recipient.now).management ≡ true) }
 {
     Algorithms::named(
-        KeyManagementAlg::named(recipient.alg()),
-        ContentEncryptionAlg::named(recipient.enc()),
+        KeyAlg::named(recipient.alg()),
+        ContentAlg::named(recipient.enc()),
     )
 }
 
@@ -146,5 +145,6 @@ pub(crate) fn is_candidate(algorithms: Algorithms, key: &Key) -> bool
         management,
         encryption,
     } = algorithms;
-    key.allows(management.operations().1) && key.fits(Algorithm::Encryption(management, encryption))
+    key.allows(Operation::of_management(management).1)
+        && key.fits(Algorithm::Encryption(management, encryption))
 }

@@ -1,5 +1,5 @@
 //! The pairs of a recipient and a key, tried in order (RFC 7516 section 5.2).
-ghost use Rattle.std.specs.Prelude.{◌≡◌, ◌≤◌, [], ◌∷◌, true, length, map, take, option_map, Some, None, IfNone};
+ghost use Rattle.std.specs.Prelude.{◌≡◌, ◌≤◌, true, length, map, take, option_map, Some, IfNone};
 ghost use Rattle.keys.specs.Code.Views.{key_view};
 ghost use Rattle.keys.specs.Limits.{limits};
 ghost use Rattle.objects.specs.Code.KeyManagementView.{is_management_of};
@@ -11,49 +11,39 @@ ghost use Rattle.tokens.specs.Code.Views.{algorithms_view, sealed_with_view, wor
 
 use crate::algorithms::Algorithms;
 use crate::decrypt::pair::Pair;
-use crate::decrypt::pairs::{algorithms_of, is_candidate};
+use crate::decrypt::pairs::algorithms_of;
 use crate::decrypt::salted::SaltedKeys;
 use crate::decrypt::tried::same_before;
 use crate::decrypt::{NO_WORK, SealedWith, Work, open_pair};
-use ciphers::SaltedKey;
-use keys::{Key, MOST_RECIPIENTS};
+use keys::MOST_RECIPIENTS;
 use objects::Recipient;
 
 /// Opens the ciphertext where it stands by the first pair that opens it, and answers the length of the plaintext: by the recipients in
 /// order, and for each by the keys in order. A recipient that is the same as an earlier one is not tried again, and its work is counted.
 pub(crate) fn open_recipients<'x>(
-    keys: &'x [Key],
     recipients: &'x [Recipient],
     salted: &mut SaltedKeys<'x>,
     sealed: SealedWith<'_, '_>,
     octets: &mut [u8],
     work: &mut Work,
 ) -> Option<usize>
-    requires few_keys { length keys.now ≤ limits.keys }
+    requires few_keys { length salted.old.keys.now ≤ limits.keys }
     requires few { length recipients.now ≤ limits.recipients }
-    requires within { are_within limits (all_pairs limits.management (map key_view keys.now) (map recipient_view recipients.now)) ≡ true }
-    requires salted { AreSalted (map key_view keys.now) salted.old }
+    requires within { are_within limits (all_pairs limits.management (map key_view salted.old.keys.now) (map recipient_view recipients.now)) ≡ true }
+    requires salted { AreSalted salted.old }
     requires fresh { work_view work.old ≡ no_work }
     ensures opened { option_map (λ n. take n octets.new) result
         ≡ first_opened (sealed_with_view sealed.entry octets.old)
-        (all_pairs limits.management (map key_view keys.entry.now) (map recipient_view recipients.entry.now)) }
+        (all_pairs limits.management (map key_view salted.old.keys.now) (map recipient_view recipients.entry.now)) }
     ensures work { work_view work.new
         ≡ with_pairs (sealed_with_view sealed.entry octets.old) no_work
-        (all_pairs limits.management (map key_view keys.entry.now) (map recipient_view recipients.entry.now)) }
+        (all_pairs limits.management (map key_view salted.old.keys.now) (map recipient_view recipients.entry.now)) }
     ensures bound { IsBounded (work_view work.new) }
 {
     let mut tried = [NO_WORK; MOST_RECIPIENTS];
     for (i, recipient) in recipients.iter().enumerate() {
         let (before, work_before) = (&recipients[..i], &tried[..i]);
-        let (opened, done) = open_unless_tried(
-            keys,
-            before,
-            work_before,
-            recipient,
-            salted,
-            sealed,
-            octets,
-        );
+        let (opened, done) = open_recipient(recipient, before, work_before, salted, sealed, octets);
         work.add(done);
         if opened.is_some() {
             return opened;
@@ -66,70 +56,43 @@ pub(crate) fn open_recipients<'x>(
 /// Opens the ciphertext by the first pair of a recipient that opens it, and answers the length of the plaintext and the work. The
 /// recipients before opened nothing, by the work of each. If one of these is the same, this one is not tried. If no pair opens the
 /// ciphertext, the octets are unchanged.
-fn open_unless_tried<'x>(
-    keys: &'x [Key],
+fn open_recipient<'x>(
+    recipient: &'x Recipient,
     before: &[Recipient],
     work_before: &[Work],
-    recipient: &'x Recipient,
     salted: &mut SaltedKeys<'x>,
     sealed: SealedWith<'_, '_>,
     octets: &mut [u8],
 ) -> (Option<usize>, Work)
-    requires few_keys { length keys.now ≤ limits.keys }
-    requires tried { AreTried (sealed_with_view sealed octets.old) (map key_view keys.now) work_before.now before.now }
+    requires few_keys { length salted.old.keys.now ≤ limits.keys }
+    requires tried { AreTried (sealed_with_view sealed octets.old) (map key_view salted.old.keys.now) work_before.now before.now }
     requires as_many { length work_before.now ≡ length before.now }
-    requires within { within_after 0 (pairs_of limits.management (map key_view keys.now) (recipient_view recipient.now)) ≡ true }
-    requires salted { AreSalted (map key_view keys.now) salted.old }
+    requires within { within_after 0 (pairs_of limits.management (map key_view salted.old.keys.now) (recipient_view recipient.now)) ≡ true }
+    requires salted { AreSalted salted.old }
     ensures opened { option_map (λ n. take n octets.new) result.0
         ≡ first_opened (sealed_with_view sealed.entry octets.old)
-        (pairs_of limits.management (map key_view keys.entry.now) (recipient_view recipient.entry.now)) }
+        (pairs_of limits.management (map key_view salted.old.keys.now) (recipient_view recipient.entry.now)) }
     ensures unchanged { IfNone result.0 (octets.new ≡ octets.old) }
-    ensures salted { AreSalted (map key_view keys.entry.now) salted.new }
+    ensures keys { salted.new.keys ≡ salted.old.keys }
+    ensures salted { AreSalted salted.new }
     ensures work { work_view result.1
         ≡ with_pairs (sealed_with_view sealed.entry octets.old) no_work
-        (pairs_of limits.management (map key_view keys.entry.now) (recipient_view recipient.entry.now)) }
+        (pairs_of limits.management (map key_view salted.old.keys.now) (recipient_view recipient.entry.now)) }
 {
-    match same_before(before, recipient) {
-        Some(j) => (None, work_before[j]),
-        None => open_recipient(keys, recipient, salted, sealed, octets),
+    if let Some(j) = same_before(before, recipient) {
+        return (None, work_before[j]);
     }
-}
-
-/// Opens the ciphertext by the first pair of a recipient that opens it, and answers the length of the plaintext and the work. If no pair
-/// opens it, the octets are unchanged.
-fn open_recipient<'x>(
-    keys: &'x [Key],
-    recipient: &'x Recipient,
-    salted: &mut SaltedKeys<'x>,
-    sealed: SealedWith<'_, '_>,
-    octets: &mut [u8],
-) -> (Option<usize>, Work)
-    requires few_keys { length keys.now ≤ limits.keys }
-    requires within { within_after 0 (pairs_of limits.management (map key_view keys.now) (recipient_view recipient.now)) ≡ true }
-    requires salted { AreSalted (map key_view keys.now) salted.old }
-    ensures opened { option_map (λ n. take n octets.new) result.0
-        ≡ first_opened (sealed_with_view sealed.entry octets.old)
-        (pairs_of limits.management (map key_view keys.entry.now) (recipient_view recipient.entry.now)) }
-    ensures unchanged { IfNone result.0 (octets.new ≡ octets.old) }
-    ensures salted { AreSalted (map key_view keys.entry.now) salted.new }
-    ensures work { work_view result.1
-        ≡ with_pairs (sealed_with_view sealed.entry octets.old) no_work
-        (pairs_of limits.management (map key_view keys.entry.now) (recipient_view recipient.entry.now)) }
-{
     let mut work = NO_WORK;
     let Some(algorithms) = algorithms_of(recipient) else {
         return (None, work);
     };
     salted.salt_for(recipient.management());
-    let opened = open_candidates(
-        keys, recipient, algorithms, salted, sealed, octets, &mut work,
-    );
+    let opened = open_candidates(recipient, algorithms, salted, sealed, octets, &mut work);
     (opened, work)
 }
 
 /// Opens the ciphertext by the first key that may decrypt by the recipient's algorithms, fits, and opens it.
 fn open_candidates<'x>(
-    keys: &'x [Key],
     recipient: &'x Recipient,
     algorithms: Algorithms,
     salted: &mut SaltedKeys<'x>,
@@ -137,29 +100,33 @@ fn open_candidates<'x>(
     octets: &mut [u8],
     work: &mut Work,
 ) -> Option<usize>
-    requires few_keys { length keys.now ≤ limits.keys }
+    requires few_keys { length salted.old.keys.now ≤ limits.keys }
     requires of_alg { is_management_of (Some algorithms.management) (recipient_view recipient.now).management ≡ true }
-    requires within { within_after 0 (pairs_with (recipient_view recipient.now) (algorithms_view algorithms) (map key_view keys.now)) ≡ true }
-    requires salted { AreSalted (map key_view keys.now) salted.old }
+    requires within { within_after 0 (pairs_with (recipient_view recipient.now) (algorithms_view algorithms) (map key_view salted.old.keys.now)) ≡ true }
+    requires salted { AreSalted salted.old }
     requires salt { IsSaltFor salted.old.p2s.now (recipient_view recipient.now).management }
     requires fresh { work_view work.old ≡ no_work }
     ensures opened { option_map (λ n. take n octets.new) result
         ≡ first_opened (sealed_with_view sealed.entry octets.old)
-        (pairs_with (recipient_view recipient.entry.now) (algorithms_view algorithms) (map key_view keys.entry.now)) }
+        (pairs_with (recipient_view recipient.entry.now) (algorithms_view algorithms) (map key_view salted.old.keys.now)) }
     ensures unchanged { IfNone result (octets.new ≡ octets.old) }
-    ensures salted { AreSalted (map key_view keys.entry.now) salted.new }
+    ensures keys { salted.new.keys ≡ salted.old.keys }
+    ensures salted { AreSalted salted.new }
     ensures work { work_view work.new
         ≡ with_pairs (sealed_with_view sealed.entry octets.old) no_work
-        (pairs_with (recipient_view recipient.entry.now) (algorithms_view algorithms) (map key_view keys.entry.now)) }
+        (pairs_with (recipient_view recipient.entry.now) (algorithms_view algorithms) (map key_view salted.old.keys.now)) }
 {
+    let keys = salted.keys;
     for (i, key) in keys.iter().enumerate() {
-        let salted = &mut salted.keys[i];
-        let opened = open_by_key(
+        let pair = Pair {
             recipient,
             algorithms,
             key,
+        };
+        let opened = open_pair(
+            &pair,
             &keys[..i],
-            salted,
+            &mut salted.salted[i],
             sealed,
             octets,
             work,
@@ -169,41 +136,4 @@ fn open_candidates<'x>(
         }
     }
     None
-}
-
-/// Opens the ciphertext by this key, if it may decrypt by the recipient's algorithms and fits.
-fn open_by_key<'x>(
-    recipient: &'x Recipient,
-    algorithms: Algorithms,
-    key: &'x Key,
-    before: &[Key],
-    salted: &mut SaltedKey<'_>,
-    sealed: SealedWith<'_, '_>,
-    octets: &mut [u8],
-    work: &mut Work,
-) -> Option<usize>
-    requires bound { IsBounded (work_view work.old) }
-    requires of_alg { is_management_of (Some algorithms.management) (recipient_view recipient.now).management ≡ true }
-    requires counted { within_after work.old.iterations
-        (pairs_with (recipient_view recipient.now) (algorithms_view algorithms) (key_view key.now ∷ [])) ≡ true }
-    requires key { salted.old.key ≡ (key_view key.now).octets }
-    requires salt { IsSaltFor salted.old.p2s (recipient_view recipient.now).management }
-    requires tried { first_opened (sealed_with_view sealed octets.old)
-        (pairs_with (recipient_view recipient.now) (algorithms_view algorithms) (map key_view before.now)) ≡ None }
-    ensures opened { option_map (λ n. take n octets.new) result ≡ first_opened (sealed_with_view sealed.entry octets.old)
-        (pairs_with (recipient_view recipient.entry.now) (algorithms_view algorithms) (key_view key.entry.now ∷ [])) }
-    ensures unchanged { IfNone result (octets.new ≡ octets.old) }
-    ensures same { salted.new ≡ salted.old }
-    ensures work { work_view work.new ≡ with_pairs (sealed_with_view sealed.entry octets.old) (work_view work.old)
-        (pairs_with (recipient_view recipient.entry.now) (algorithms_view algorithms) (key_view key.entry.now ∷ [])) }
-{
-    if !is_candidate(algorithms, key) {
-        return None;
-    }
-    let pair = Pair {
-        recipient,
-        algorithms,
-        key,
-    };
-    open_pair(&pair, before, salted, sealed, octets, work)
 }

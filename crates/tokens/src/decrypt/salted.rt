@@ -1,7 +1,5 @@
 //! The keys of a set, salted for a recipient. A salt that several recipients share is hashed once for each key.
-ghost use Rattle.std.specs.Prelude.{◌≡◌, List, map, IfOk, IfErr};
-ghost use Rattle.keys.specs.Keys.{OctetKey};
-ghost use Rattle.keys.specs.Code.Views.{key_view};
+ghost use Rattle.std.specs.Prelude.{◌≡◌, map, IfOk, IfErr};
 ghost use Rattle.objects.specs.Code.KeyManagementView.{management_view};
 ghost use Rattle.tokens.specs.Code.Trying.{AreSalted, IsSaltFor, salted_with};
 
@@ -11,17 +9,19 @@ use objects::KeyManagement;
 use octets::{Refusal, same_octets};
 use std::alloc::Global;
 
-/// The keys of a set, in order, salted with one p2s (RFC 7518 section 4.8.1.1).
+/// The keys of a set, and in the same order each salted with one p2s (RFC 7518 section 4.8.1.1).
 #[derive(Drop)]
 pub(crate) struct SaltedKeys<'x> {
-    pub(crate) keys: Vec<SaltedKey<'x>>,
+    pub(crate) keys: &'x [Key],
+    pub(crate) salted: Vec<SaltedKey<'x>>,
     pub(crate) p2s: &'x [u8],
 }
 
 impl<'x> SaltedKeys<'x> {
     /// The keys with an empty salt. Fails only with `Memory`.
     pub(crate) fn new(alloc: Global, keys: &'x [Key]) -> Result<SaltedKeys<'x>, Refusal>
-        ensures salted { IfOk result (AreSalted (map key_view keys.entry.now)) }
+        ensures keys { IfOk result (λ salted. salted.keys.now ≡ keys.entry.now) }
+        ensures salted { IfOk result AreSalted }
         ensures memory { IfErr result (λ e. e ≡ Refusal.Memory) }
     {
         let mut salted = Vec::new(alloc);
@@ -29,14 +29,16 @@ impl<'x> SaltedKeys<'x> {
             salted.push(SaltedKey::new(key.octets(), b""))?;
         }
         Ok(SaltedKeys {
-            keys: salted,
+            keys,
+            salted,
             p2s: b"",
         })
     }
 
     /// Salts the keys for a recipient, unless they have its salt. One whose key is no password has none.
     pub(crate) fn salt_for(&mut self, management: &'x KeyManagement)
-        ensures salted { (keys : List OctetKey) → AreSalted keys self.old → AreSalted keys self.new }
+        ensures keys { self.new.keys ≡ self.old.keys }
+        ensures salted { AreSalted self.old → AreSalted self.new }
         ensures salt { IsSaltFor self.new.p2s.now (management_view management.entry.now) }
     {
         match management {
@@ -47,14 +49,15 @@ impl<'x> SaltedKeys<'x> {
 
     /// Salts the keys, unless they have this salt.
     fn salt(&mut self, p2s: &'x [u8])
-        ensures salted { (keys : List OctetKey) → AreSalted keys self.old → AreSalted keys self.new }
+        ensures keys { self.new.keys ≡ self.old.keys }
+        ensures salted { AreSalted self.old → AreSalted self.new }
         ensures salt { self.new.p2s.now ≡ p2s.entry.now }
     {
         if same_octets(self.p2s, p2s) {
             return;
         }
         self.p2s = p2s;
-        salt_each(&mut self.keys, p2s);
+        salt_each(&mut self.salted, p2s);
     }
 }
 

@@ -3,20 +3,18 @@ ghost use Rattle.std.specs.Prelude.{◌≡◌, ◌≤◌, ◌*◌, ◌||◌, tru
 ghost use Rattle.std.specs.List.{AllByRecursion};
 ghost use Rattle.ciphers.specs.Sealing.{cek_len};
 ghost use Rattle.keys.specs.declared.algorithm.Algorithm.TheVariants.{Encryption as EncryptionWith};
-ghost use Rattle.keys.specs.Algorithms.{is_password_based};
+ghost use Rattle.ciphers.specs.Algorithms.{is_password_based};
 ghost use Rattle.keys.specs.Keys.{fits};
 ghost use Rattle.keys.specs.Limits.{limits};
 ghost use Rattle.keys.specs.Code.Views.{key_view};
 ghost use Rattle.objects.specs.Code.KeyManagementView.{management_view};
-ghost use Rattle.tokens.specs.Algorithms.{content_alg as content_alg_of};
 ghost use Rattle.tokens.specs.Delivering.{drawn_by, drawn_for, drawn_for_all, management_with, delivery_to, deliveries_to};
 ghost use Rattle.tokens.specs.Code.Views.{recipient_key_view, encryption_plan_view, delivery_view};
 
-use crate::algorithms::{NO_PARAMETERS, key_alg};
+use crate::algorithms::NO_PARAMETERS;
 use crate::encrypt::plan::EncryptionPlan;
 use crate::encrypt::recipient_key::RecipientKey;
-use ciphers::{Cek, KeyParameters};
-use keys::{KeyManagementAlg, KeyManagementMode};
+use ciphers::{Cek, KeyAlg, KeyManagementMode, KeyParameters};
 use objects::{KeyManagement, SharedOctets};
 use octets::Refusal;
 use std::alloc::Global;
@@ -30,7 +28,7 @@ const KEY_IV_LEN: usize = 12;
 /// An encrypted key, and how it delivers the content encryption key.
 #[derive(Drop)]
 pub(crate) struct Delivery {
-    pub(crate) alg: KeyManagementAlg,
+    pub(crate) alg: KeyAlg,
     pub(crate) management: KeyManagement,
     pub(crate) encrypted_key: Vec<u8>,
 }
@@ -57,7 +55,7 @@ fn drawn_for(recipient_key: &RecipientKey<'_>) -> usize
 }
 
 /// How many octets are drawn for an algorithm: those of a salt input for PBES2, or of an initialization vector for AES-GCM key wrap.
-fn drawn_by(alg: KeyManagementAlg) -> usize
+fn drawn_by(alg: KeyAlg) -> usize
     ensures count { result ≡ drawn_by alg }
     ensures bound { result ≤ SALT_LEN }
 {
@@ -76,8 +74,8 @@ pub(crate) fn deliver_to_all(
     cek: &Cek,
 ) -> Result<Vec<Delivery>, Refusal>
     requires drawn { length drawn.now ≡ drawn_for_all (encryption_plan_view encryption.now).recipient_keys }
-    requires fits { length cek.now ≡ cek_len (content_alg_of encryption.now.encryption) }
-    requires direct { AllByRecursion (λ r. r.management ≡ KeyManagementAlg.Dir → cek.now ≡ (key_view r.key.now).octets) encryption.now.recipient_keys.items }
+    requires fits { length cek.now ≡ cek_len encryption.now.encryption }
+    requires direct { AllByRecursion (λ r. r.management ≡ KeyAlg.Dir → cek.now ≡ (key_view r.key.now).octets) encryption.now.recipient_keys.items }
     ensures deliveries { IfOk result (λ list. map delivery_view list.items
         ≡ deliveries_to (encryption_plan_view encryption.now) cek.now (encryption_plan_view encryption.now).recipient_keys drawn.now) }
     ensures memory { IfErr result (λ e. e ≡ Refusal.Memory) }
@@ -102,10 +100,10 @@ fn deliver(
     cek: &Cek,
 ) -> Result<Delivery, Refusal>
     requires drawn { length drawn.now ≡ drawn_for (recipient_key_view recipient_key.now) }
-    requires fits { length cek.now ≡ cek_len (content_alg_of encryption.now.encryption) }
+    requires fits { length cek.now ≡ cek_len encryption.now.encryption }
     requires key_fits { fits (key_view recipient_key.now.key.now) (EncryptionWith recipient_key.now.management encryption.now.encryption) ≡ true }
     requires counted { (not (is_password_based recipient_key.now.management) || nat_le 1 encryption.now.p2c) ≡ true }
-    requires direct { recipient_key.now.management ≡ KeyManagementAlg.Dir → cek.now ≡ (key_view recipient_key.now.key.now).octets }
+    requires direct { recipient_key.now.management ≡ KeyAlg.Dir → cek.now ≡ (key_view recipient_key.now.key.now).octets }
     ensures delivery { IfOk result (λ made. delivery_view made
         ≡ delivery_to (encryption_plan_view encryption.now) cek.now (recipient_key_view recipient_key.now) drawn.now) }
     ensures memory { IfErr result (λ e. e ≡ Refusal.Memory) }
@@ -122,7 +120,7 @@ fn deliver(
     };
     let mut buf = [0; 72];
     let mut tag = [0; 16];
-    let (len, tag_len) = key_alg(alg).wrap_cek(key.octets(), parameters, cek, &mut buf, &mut tag);
+    let (len, tag_len) = alg.wrap_cek(key.octets(), parameters, cek, &mut buf, &mut tag);
     Ok(Delivery {
         alg,
         management: management_with(alloc, alg, drawn, encryption.p2c, &tag[..tag_len])?,
@@ -133,7 +131,7 @@ fn deliver(
 /// How a key delivers the content encryption key, by its algorithm, the octets that were drawn, and the tag that was made.
 fn management_with(
     alloc: Global,
-    alg: KeyManagementAlg,
+    alg: KeyAlg,
     drawn: &[u8],
     p2c: u32,
     tag: &[u8],

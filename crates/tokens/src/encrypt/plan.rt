@@ -4,14 +4,14 @@ ghost use Rattle.std.specs.List.{list_all};
 ghost use Rattle.serde_json.specs.View.{members_view};
 ghost use Rattle.serde_json.specs.Written.{members_have_float};
 ghost use Rattle.keys.specs.declared.algorithm.Algorithm.TheVariants.{Encryption as EncryptionWith};
-ghost use Rattle.keys.specs.Algorithms.{is_password_based};
+ghost use Rattle.ciphers.specs.Algorithms.{is_password_based};
 ghost use Rattle.keys.specs.Keys.{fits};
 ghost use Rattle.keys.specs.Limits.{limits};
 ghost use Rattle.keys.specs.Code.Views.{key_view};
 ghost use Rattle.tokens.specs.Choosing.{is_direct};
 
 use crate::encrypt::recipient_key::RecipientKey;
-use keys::ContentEncryptionAlg;
+use ciphers::ContentAlg;
 use serde_json::{Map, Value};
 
 /// What the template has of key management, which is then not written for the recipients: the name of the algorithm, and the iterations.
@@ -25,7 +25,7 @@ pub(crate) struct Given {
 /// written for the recipients; and the additional data. A key that is used directly is the only one.
 #[derive(Drop)]
 pub(crate) struct EncryptionPlan<'k> {
-    pub(crate) encryption: ContentEncryptionAlg,
+    pub(crate) encryption: ContentAlg,
     pub(crate) recipient_keys: Vec<RecipientKey<'k>>,
     pub(crate) given: Given,
     pub(crate) p2c: u32,

@@ -3,7 +3,7 @@ ghost use Rattle.std.specs.Prelude.{◌≡◌, ◌≤◌, ◌==◌, ◌*◌, Som
 ghost use Rattle.std.specs.List.{list_all, list_any};
 ghost use Rattle.serde_json.specs.Written.{members_have_float};
 ghost use Rattle.octets.specs.Code.Results.{Agrees, AgreesUnlessMemory};
-ghost use Rattle.keys.specs.Algorithms.{encryption_alg_of, mode_of, kek_len};
+ghost use Rattle.ciphers.specs.Algorithms.{encryption_alg_of, mode_of, kek_len};
 ghost use Rattle.keys.specs.Limits.{limits};
 ghost use Rattle.keys.specs.Code.Views.{key_view};
 ghost use Rattle.objects.specs.Texts.{each};
@@ -15,9 +15,10 @@ use crate::encrypt::plan::{EncryptionPlan, Given};
 use crate::encrypt::recipient_key::RecipientKey;
 use crate::encrypt::template::{EncryptionTemplate, read_encryption_template};
 use crate::headers::{is_empty, is_shallow, with_name};
+use ciphers::{ContentAlg, KeyAlg, KeyManagementMode};
 use keys::{
-    Algorithm, ContentEncryptionAlg, GREATEST_P2C, Key, KeyManagementAlg, KeyManagementMode,
-    KeySet, LEAST_P2C, MOST_ITERATIONS, USUAL_P2C, read_json,
+    Algorithm, GREATEST_P2C, Key, KeySet, LEAST_P2C, MOST_ITERATIONS, Operation, USUAL_P2C,
+    read_json,
 };
 use objects::copy_header;
 use octets::{Refusal, needs};
@@ -98,7 +99,7 @@ fn settle_encryption<'k>(
 #[tactic(auto, using(objects::proofs::Lemmas::reading))]
 fn recipient_keys_by<'k>(
     alloc: Global,
-    asked: Option<KeyManagementAlg>,
+    asked: Option<KeyAlg>,
     keys: &'k [Key],
 ) -> Result<Vec<RecipientKey<'k>>, Refusal>
     ensures exact { AgreesUnlessMemory (λ recipient_keys. map recipient_key_view recipient_keys.items) result
@@ -115,10 +116,7 @@ fn recipient_keys_by<'k>(
 /// The key with its algorithm of key management. Refuses with `NoAlgorithm` if nothing says this algorithm, and with `KeyDoesNotFit` if the
 /// key's `alg` is no algorithm of encryption.
 #[tactic(auto, unfolding(crate::specs::Choosing::recipient_key_by))]
-fn recipient_key_by<'k>(
-    asked: Option<KeyManagementAlg>,
-    key: &'k Key,
-) -> Result<RecipientKey<'k>, Refusal>
+fn recipient_key_by<'k>(asked: Option<KeyAlg>, key: &'k Key) -> Result<RecipientKey<'k>, Refusal>
     ensures { Agrees recipient_key_view result (recipient_key_by_key asked (key_view key.now)) }
 {
     let management = chosen_management(asked, key)?;
@@ -126,10 +124,7 @@ fn recipient_key_by<'k>(
 }
 
 /// The key management algorithm of the template, or else that of the key.
-fn chosen_management(
-    asked: Option<KeyManagementAlg>,
-    key: &Key,
-) -> Result<KeyManagementAlg, Refusal>
+fn chosen_management(asked: Option<KeyAlg>, key: &Key) -> Result<KeyAlg, Refusal>
     ensures { Agrees (λ alg. alg) result (chosen_management asked (key_view key.now)) }
 {
     match asked {
@@ -139,42 +134,37 @@ fn chosen_management(
 }
 
 /// The algorithm that the key's `alg` asks for, or the one that its length implies.
-fn management_of_key(name: Option<&str>, len: usize) -> Result<KeyManagementAlg, Refusal>
+fn management_of_key(name: Option<&str>, len: usize) -> Result<KeyAlg, Refusal>
     ensures { Agrees (λ alg. alg) result (management_of_key (option_map (λ n. n.now) name.entry) len) }
 {
     match name {
         None => management_by_length(len).ok_or(Refusal::NoAlgorithm),
         Some(name) => {
-            let management = KeyManagementAlg::named(name);
-            management_by_name(management, ContentEncryptionAlg::named(name)).ok_or(
-                Refusal::KeyDoesNotFit,
-            )
+            let management = KeyAlg::named(name);
+            management_by_name(management, ContentAlg::named(name)).ok_or(Refusal::KeyDoesNotFit)
         }
     }
 }
 
 /// The algorithm whose keys have `len` octets.
-fn management_by_length(len: usize) -> Option<KeyManagementAlg>
+fn management_by_length(len: usize) -> Option<KeyAlg>
     ensures { result ≡ management_by_length len }
 {
     match len {
-        16 => Some(KeyManagementAlg::A128Kw),
-        24 => Some(KeyManagementAlg::A192Kw),
-        32 => Some(KeyManagementAlg::A256Kw),
+        16 => Some(KeyAlg::A128Kw),
+        24 => Some(KeyAlg::A192Kw),
+        32 => Some(KeyAlg::A256Kw),
         _ => None,
     }
 }
 
 /// The algorithm of a name. The name of a content encryption asks for direct use.
-fn management_by_name(
-    management: Option<KeyManagementAlg>,
-    encryption: Option<ContentEncryptionAlg>,
-) -> Option<KeyManagementAlg>
+fn management_by_name(management: Option<KeyAlg>, encryption: Option<ContentAlg>) -> Option<KeyAlg>
     ensures { result ≡ management_by_name management encryption }
 {
     match (management, encryption) {
         (Some(alg), _) => Some(alg),
-        (None, Some(_)) => Some(KeyManagementAlg::Dir),
+        (None, Some(_)) => Some(KeyAlg::Dir),
         (None, None) => None,
     }
 }
@@ -196,7 +186,7 @@ fn any_is_direct(recipient_keys: &[RecipientKey<'_>]) -> bool
 }
 
 /// Whether the key is used directly.
-pub(crate) fn is_direct(alg: KeyManagementAlg) -> bool
+pub(crate) fn is_direct(alg: KeyAlg) -> bool
     ensures { result ≡ is_direct alg }
 {
     match alg.mode() {
@@ -208,9 +198,9 @@ pub(crate) fn is_direct(alg: KeyManagementAlg) -> bool
 
 /// The content encryption algorithm of the template, or else the one that goes with the first recipient key.
 fn encryption_for(
-    asked: Option<ContentEncryptionAlg>,
+    asked: Option<ContentAlg>,
     recipient_keys: &[RecipientKey<'_>],
-) -> Result<ContentEncryptionAlg, Refusal>
+) -> Result<ContentAlg, Refusal>
     ensures { Agrees (λ alg. alg) result (encryption_for asked (map recipient_key_view recipient_keys.now)) }
 {
     match recipient_keys.first() {
@@ -221,10 +211,10 @@ fn encryption_for(
 
 /// The content encryption algorithm of the template, or else the one that goes with the key.
 fn chosen_encryption(
-    asked: Option<ContentEncryptionAlg>,
-    management: KeyManagementAlg,
+    asked: Option<ContentAlg>,
+    management: KeyAlg,
     key: &Key,
-) -> Result<ContentEncryptionAlg, Refusal>
+) -> Result<ContentAlg, Refusal>
     ensures { Agrees (λ alg. alg) result (chosen_encryption asked management (key_view key.now)) }
 {
     match asked {
@@ -234,7 +224,7 @@ fn chosen_encryption(
 }
 
 /// The algorithm that goes with key management.
-fn encryption_by_management(management: KeyManagementAlg, key: &Key) -> Option<ContentEncryptionAlg>
+fn encryption_by_management(management: KeyAlg, key: &Key) -> Option<ContentAlg>
     ensures { result ≡ encryption_in (mode_of management) (kek_len management) (key_view key.now) }
 {
     match management.mode() {
@@ -248,38 +238,38 @@ fn encryption_by_management(management: KeyManagementAlg, key: &Key) -> Option<C
 }
 
 /// The CBC algorithm whose AES key is as long as the key of the wrap, of `len` octets.
-fn encryption_by_wrap(len: usize) -> Option<ContentEncryptionAlg>
+fn encryption_by_wrap(len: usize) -> Option<ContentAlg>
     ensures { result ≡ encryption_by_wrap len }
 {
     match len {
-        16 => Some(ContentEncryptionAlg::A128CbcHs256),
-        24 => Some(ContentEncryptionAlg::A192CbcHs384),
-        32 => Some(ContentEncryptionAlg::A256CbcHs512),
+        16 => Some(ContentAlg::A128CbcHs256),
+        24 => Some(ContentAlg::A192CbcHs384),
+        32 => Some(ContentAlg::A256CbcHs512),
         _ => None,
     }
 }
 
 /// The algorithm that the `alg` of a key names.
-fn encryption_by_name(name: Option<&str>) -> Option<ContentEncryptionAlg>
+fn encryption_by_name(name: Option<&str>) -> Option<ContentAlg>
     ensures { result ≡ option_and_then encryption_alg_of (option_map (λ n. n.now) name.entry) }
 {
-    ContentEncryptionAlg::named(name?)
+    ContentAlg::named(name?)
 }
 
 /// The algorithm whose key has `len` octets, for a key that is used directly.
-fn encryption_by_length(len: usize) -> Option<ContentEncryptionAlg>
+fn encryption_by_length(len: usize) -> Option<ContentAlg>
     ensures { result ≡ encryption_by_length len }
 {
     match len {
-        32 => Some(ContentEncryptionAlg::A128CbcHs256),
-        48 => Some(ContentEncryptionAlg::A192CbcHs384),
-        64 => Some(ContentEncryptionAlg::A256CbcHs512),
+        32 => Some(ContentAlg::A128CbcHs256),
+        48 => Some(ContentAlg::A192CbcHs384),
+        64 => Some(ContentAlg::A256CbcHs512),
         _ => None,
     }
 }
 
 /// Whether each key may encrypt and fits.
-fn all_may_encrypt(encryption: ContentEncryptionAlg, recipient_keys: &[RecipientKey<'_>]) -> bool
+fn all_may_encrypt(encryption: ContentAlg, recipient_keys: &[RecipientKey<'_>]) -> bool
     ensures { result ≡ list_all (may_encrypt encryption) (map recipient_key_view recipient_keys.now) }
 {
     recipient_keys
@@ -288,11 +278,12 @@ fn all_may_encrypt(encryption: ContentEncryptionAlg, recipient_keys: &[Recipient
 }
 
 /// Whether the key may encrypt by the algorithms and fits.
-fn may_encrypt(encryption: ContentEncryptionAlg, recipient_key: &RecipientKey<'_>) -> bool
+fn may_encrypt(encryption: ContentAlg, recipient_key: &RecipientKey<'_>) -> bool
     ensures { result ≡ may_encrypt encryption (recipient_key_view recipient_key.now) }
 {
     let RecipientKey { key, management } = *recipient_key;
-    key.allows(management.operations().0) && key.fits(Algorithm::Encryption(management, encryption))
+    key.allows(Operation::of_management(management).0)
+        && key.fits(Algorithm::Encryption(management, encryption))
 }
 
 /// How many recipient keys are passwords.

@@ -4,12 +4,14 @@ ghost use Rattle.serde_json.specs.View.{view};
 ghost use Rattle.serde_json.specs.Written.{has_float, members_have_float};
 ghost use Rattle.octets.specs.Code.Results.{Agrees, AgreesUnlessMemory};
 ghost use Rattle.objects.specs.Code.Views.{header_view, part_view};
-ghost use Rattle.keys.specs.Algorithms.{management_alg_of, encryption_alg_of, supported};
+ghost use Rattle.ciphers.specs.Algorithms.{management_alg_of, encryption_alg_of};
+ghost use Rattle.keys.specs.Algorithms.{supported};
 ghost use Rattle.octets.specs.Outcomes.{if_there};
 ghost use Rattle.tokens.specs.EncryptionTemplate.{template_texts, leaves_parameters, algorithms_asked, encryption_template};
 ghost use Rattle.tokens.specs.Code.Views.{template_texts_view, asked_view, encryption_template_view};
 
-use keys::{ContentEncryptionAlg, KeyManagementAlg, has_only, is_object};
+use ciphers::{ContentAlg, KeyAlg};
+use keys::{has_only, is_object};
 use objects::{Header, header_at, text_at};
 use octets::{Refusal, b64_decode, needs};
 use serde_json::{Map, Value};
@@ -19,8 +21,8 @@ use std::alloc::Global;
 /// algorithm that reads it.
 #[derive(Clone, Copy)]
 pub(crate) struct AlgorithmsAsked {
-    pub(crate) management: Option<KeyManagementAlg>,
-    pub(crate) encryption: Option<ContentEncryptionAlg>,
+    pub(crate) management: Option<KeyAlg>,
+    pub(crate) encryption: Option<ContentAlg>,
     pub(crate) p2c: Result<Option<u64>, Refusal>,
 }
 
@@ -122,12 +124,12 @@ fn leaves_parameters(header: Header<'_>) -> bool
 }
 
 /// The key management algorithm of the name, if there is one. It must be supported.
-fn management_asked(name: Option<&str>) -> Result<Option<KeyManagementAlg>, Refusal>
+fn management_asked(name: Option<&str>) -> Result<Option<KeyAlg>, Refusal>
     ensures { Agrees (λ alg. alg) result (if_there (supported management_alg_of) (option_map (λ n. n.now) name.entry)) }
 {
     match name {
         None => Ok(None),
-        Some(name) => match KeyManagementAlg::named(name) {
+        Some(name) => match KeyAlg::named(name) {
             None => Err(Refusal::Unsupported),
             Some(alg) => Ok(Some(alg)),
         },
@@ -135,12 +137,12 @@ fn management_asked(name: Option<&str>) -> Result<Option<KeyManagementAlg>, Refu
 }
 
 /// The content encryption algorithm of the name, if there is one. It must be supported.
-fn encryption_asked(name: Option<&str>) -> Result<Option<ContentEncryptionAlg>, Refusal>
+fn encryption_asked(name: Option<&str>) -> Result<Option<ContentAlg>, Refusal>
     ensures { Agrees (λ alg. alg) result (if_there (supported encryption_alg_of) (option_map (λ n. n.now) name.entry)) }
 {
     match name {
         None => Ok(None),
-        Some(name) => match ContentEncryptionAlg::named(name) {
+        Some(name) => match ContentAlg::named(name) {
             None => Err(Refusal::Unsupported),
             Some(alg) => Ok(Some(alg)),
         },

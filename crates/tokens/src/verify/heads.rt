@@ -2,11 +2,10 @@
 ghost use Rattle.std.specs.Prelude.{◌≡◌, ◌<◌, ◌≤◌, ◌∷◌, ◌++◌, [], true, length, map};
 ghost use Rattle.keys.specs.Limits.{limits};
 ghost use Rattle.objects.specs.Code.Views.{signature_view};
-ghost use Rattle.tokens.specs.Code.Heads.{signature_len as signature_len_of, has_signature_len as has_len, is_alike as are_alike};
-ghost use Rattle.tokens.specs.Code.Heads.{is_covered as is_covered_by, covers, is_one_of as is_one, pointed_views, heads_view};
+ghost use Rattle.tokens.specs.Code.Heads.{has_signature_len as has_len, is_alike as are_alike, is_covered as is_covered_by, covers, is_one_of as is_one, pointed_views, heads_view};
 
 use crate::mac::Mac;
-use keys::{MOST_RECIPIENTS, SignatureAlg};
+use keys::MOST_RECIPIENTS;
 use objects::Signature;
 use octets::same_octets;
 use std::marker::Model;
@@ -121,18 +120,7 @@ fn has_signature_len(signature: &Signature) -> bool
 {
     match signature.supported_alg() {
         None => false,
-        Some(alg) => signature.signature().len() == signature_len(alg),
-    }
-}
-
-/// The length of the algorithm's HMAC (RFC 7518 section 3.2).
-fn signature_len(alg: SignatureAlg) -> usize
-    ensures { result ≡ signature_len_of alg }
-{
-    match alg {
-        SignatureAlg::Hs256 => 32,
-        SignatureAlg::Hs384 => 48,
-        SignatureAlg::Hs512 => 64,
+        Some(alg) => signature.signature().len() == alg.hash_len(),
     }
 }
 

@@ -9,14 +9,12 @@ pub returns-clause-cek : goal.returns-clause-cek
 unfolding cek_of
 returns-clause-cek c =
     rw (
-      ← c.key_alg.ensures,
-      ← c.content_alg.ensures,
       ← c.requires.key,
       ← c.management.ensures.management,
       ← c.parameters-parameters.ensures,
       ← c.encrypted_key.ensures,
     )
-    (delivers c.delivers_exactly.ensures c.key_alg.result c.content_alg.result c.args.salted.now.key
+    (delivers c.delivers_exactly.ensures c.args.pair.now.algorithms.management c.args.pair.now.algorithms.encryption c.args.salted.now.key
     (parameters_view c.parameters-parameters.result) c.encrypted_key.result.now
     c.unwrap_cek_salted.result.0 (subst IsOctets (c.octets.ensures ∙ sym c.requires.key) c.are_octets.ensures) c.unwrap_cek_salted.ensures.delivers
     c.unwrap_cek_salted.ensures.nothing)

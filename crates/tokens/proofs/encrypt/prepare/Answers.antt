@@ -20,7 +20,7 @@ begin_sealing-requires-clause-made g c =
     le-leb (length e.recipient_keys) limits.recipients (omega (arith, length-map items recipient_key_view, c.in_ok-encryption.encryption.few)) in
     let long : length c.draw.new.out ≡ random_len e = search rules in
     let laws : OctetLaws = record { opened = c.what_is_opened_is_octets.ensures; delivering = c.what_delivers_is_octets.ensures } in
-    let framed = has_frame c.args.compact c.args.keys.now c.args.template.now e c.draw.new.out c.in_ok-encryption.ensures few laws c.are_octet_keys.ensures
+    let framed = has_frame c.args.compact c.args.keys.now c.args.template.now e c.draw.new.out c.in_ok-encryption.ensures few laws c.are_octet_keys.ensures.octets
     c.are_octets.ensures long c.args.detach in
     rw framed.1 refl
 
@@ -38,4 +38,4 @@ returns-clause-unsealed g c octets may =
     if_ok_all c.begin_sealing.result c.begin_sealing.ensures.sealing c.begin_sealing.ensures.framed c.begin_sealing.ensures.cek
     (λ made started framed cek. is_unsealed is_sealing-value.it c.args.compact c.args.detach c.args.keys.now c.args.template.now e c.draw.new.out octets
     may.rest made.sealer (map string_bytes made.texts.items)
-    c.in_ok-encryption.ensures few laws c.are_octet_keys.ensures c.are_octets.ensures long (may.continues ∙ ap (λ l. l ++ may.rest) drawn) started framed cek)
+    c.in_ok-encryption.ensures few laws c.are_octet_keys.ensures.octets c.are_octets.ensures long (may.continues ∙ ap (λ l. l ++ may.rest) drawn) started framed cek)

@@ -1,5 +1,4 @@
-use Rattle.jose.specs.Words.{has_words}
-use Rattle.jose.specs.Words.{commands}
+use Rattle.jose.specs.Words.{has_words, commands}
 use Rattle.jose.specs.Code.Rows.{command_entry}
 use Rattle.jose.proofs.Finding.{found_mapped}
 use Rattle.jose.proofs.Table.{found_simple}

@@ -15,17 +15,19 @@ invariant-loop-i l =
     let s : SealedContent = sealed_with_view l.sealed l.initial.octets in
     let r = recipient_view l.recipient in
     let a = algorithms_view l.algorithms in
-    let left = pairs_with r a (map key_view (drop l.i l.keys)) in
-    let all = pairs_with r a (map key_view l.keys) in
+    let keys = l.initial.salted.keys.now in
+    let left = pairs_with r a (map key_view (drop l.i keys)) in
+    let all = pairs_with r a (map key_view keys) in
     record {
       octets : l.octets ≡ l.initial.octets;
-      tried : first_opened s (pairs_with r a (map key_view (take l.i l.keys))) ≡ None;
+      tried : first_opened s (pairs_with r a (map key_view (take l.i keys))) ≡ None;
       opened : first_opened s left ≡ first_opened s all;
       work : with_pairs s (work_view l.work) left ≡ with_pairs s no_work all;
       within : within_after l.work.iterations left ≡ true;
       iterations : l.work.iterations ≤ limits.p2c_sum;
       unwraps : l.work.unwraps ≤ l.i;
       openings : l.work.openings ≤ l.i;
-      salted : AreSalted (map key_view l.keys) l.salted;
+      keys : l.salted.keys ≡ l.initial.salted.keys;
+      salted : AreSalted l.salted;
       salt : l.salted.p2s ≡ l.initial.salted.p2s;
     }

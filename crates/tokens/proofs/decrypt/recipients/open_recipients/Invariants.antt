@@ -13,7 +13,7 @@ use Rattle.tokens.proofs.decrypt.recipients.open_recipients.Given as goal
 abbrev pub invariant-loop-i : goal.invariant-loop-i
 invariant-loop-i l =
     let s : SealedContent = sealed_with_view l.sealed l.initial.octets in
-    let keys = map key_view l.keys in
+    let keys = map key_view l.initial.salted.keys.now in
     let left = all_pairs limits.management keys (map recipient_view (drop l.i l.recipients)) in
     let all = all_pairs limits.management keys (map recipient_view l.recipients) in
     record {
@@ -25,6 +25,7 @@ invariant-loop-i l =
       iterations : l.work.iterations ≤ limits.p2c_sum;
       unwraps : l.work.unwraps ≤ limits.keys * l.i;
       openings : l.work.openings ≤ limits.keys * l.i;
-      salted : AreSalted keys l.salted;
+      keys : l.salted.keys ≡ l.initial.salted.keys;
+      salted : AreSalted l.salted;
       room : length l.tried ≡ limits.recipients;
     }

@@ -3,7 +3,7 @@ use Rattle.std.specs.Vec.Iter.{into_iter_items}
 use Rattle.octets.specs.Base64url.{base64url}
 use Rattle.keys.specs.Code.Views.{key_view}
 use Rattle.objects.specs.Code.Views.{signature_view}
-use Rattle.tokens.specs.Signatures.{signature_hash}
+use Rattle.keys.specs.Algorithms.{signature_hash}
 use Rattle.tokens.specs.Verifying.{candidate_alg}
 use Rattle.tokens.specs.Code.Heads.{made_by}
 use Rattle.tokens.proofs.Verifying.Detached.{first_for_pair, made_by_input}

@@ -1,7 +1,7 @@
 use Rattle.std.proofs.Common.{◌≡◌, ◌++◌, ◌∷◌, [], codes, Some, sym, ap, subst, ◌∙◌}
 use Rattle.keys.specs.Code.Views.{key_view}
 use Rattle.objects.specs.Code.Views.{signature_view}
-use Rattle.tokens.specs.Signatures.{signature_hash}
+use Rattle.keys.specs.Algorithms.{signature_hash}
 use Rattle.tokens.specs.Code.SigningInputs.{InputStart, HoldEach}
 use Rattle.tokens.specs.Verifying.{candidate_alg}
 use Rattle.tokens.specs.Code.VerifyingInputs.{starts_by}
