@@ -60,20 +60,21 @@ fn fips197_appendix_c(rt: HostRuntime) {
 
 // Blocks that are encrypted together are those that are encrypted one at a time, and decrypting gives them back.
 fn expect_together<B: Block>(rt: &impl Abort, cipher: &B) {
-    let mut text = [0; 144];
-    for i in 0..144_u8 {
-        text[i as usize] = i.wrapping_mul(7);
+    let mut text = [0; 1120];
+    for i in 0..1120_usize {
+        text[i] = (i % 251) as u8;
     }
-    for n in 1..10_usize {
+    let mut one_by_one = text;
+    for i in 0..70_usize {
+        let mut block = [0; 16];
+        block.copy_from_slice(&text[16 * i..16 * i + 16]);
+        one_by_one[16 * i..16 * i + 16].copy_from_slice(&cipher.encrypt(&block));
+    }
+    for n in 1..71_usize {
         let mut together = text;
         cipher.encrypt_blocks(&mut together[..16 * n]);
-        let mut one_by_one = text;
-        for i in 0..n {
-            let mut block = [0; 16];
-            block.copy_from_slice(&text[16 * i..16 * i + 16]);
-            one_by_one[16 * i..16 * i + 16].copy_from_slice(&cipher.encrypt(&block));
-        }
-        assert!(rt; together == one_by_one, "{n} blocks");
+        assert!(rt; together[..16 * n] == one_by_one[..16 * n], "{n} blocks");
+        assert!(rt; together[16 * n..] == text[16 * n..], "no block after {n}");
         cipher.decrypt_blocks(&mut together[..16 * n]);
         assert!(rt; together == text, "{n} blocks back");
     }
