@@ -28,12 +28,7 @@ pub(crate) fn try_file(
     for (number, line) in text.as_str().split('\n').enumerate() {
         if line.is_empty() {
             if !block.is_empty() {
-                let ended = Block {
-                    file: name,
-                    line: at,
-                    lines: block.as_slice(),
-                };
-                match end_block(rt, ended, &group, values, tally) {
+                match end_block(rt, name, at, block.as_slice(), &group, values, tally) {
                     Ok(Some(fields)) => group = fields,
                     Ok(None) => {}
                     Err(bad) => return Err(bad.at(at)),
@@ -54,33 +49,26 @@ pub(crate) fn try_file(
     Ok(())
 }
 
-/// The lines of a block, and where the first of them is.
-#[derive(Clone, Copy)]
-struct Block<'x, 'l> {
-    file: &'x str,
-    line: usize,
-    lines: &'l [&'x str],
-}
-
 /// Does what a block says: names its values, returns the fields of a new group, or tries a row.
 fn end_block<'x>(
     rt: &HostRuntime,
-    block: Block<'x, '_>,
+    file: &'x str,
+    line: usize,
+    block: &[&str],
     group: &'x Fields,
     values: &mut Values,
     tally: &mut Tally,
 ) -> Result<Option<Fields>, Bad> {
     let own = Fields::new(rt.alloc());
-    let Block { file, line, lines } = block;
-    let is_of_values = lines.iter().any(|line| line.starts_with("value "));
+    let is_of_values = block.iter().any(|line| line.starts_with("value "));
     if is_of_values {
         let row = Row { own: &own, group };
-        for line in lines {
+        for line in block {
             values.add(line, &row)?;
         }
         return Ok(None);
     }
-    let own = read_fields(rt.alloc(), lines, group, values)?;
+    let own = read_fields(rt.alloc(), block, group, values)?;
     if own.has(Name::Test) {
         return Ok(Some(own));
     }
