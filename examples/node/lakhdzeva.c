@@ -43,7 +43,9 @@ static napi_value thumbprints(napi_env env, napi_callback_info info) {
     if (!read_texts(env, info, 1, &keys)) return NULL;
     size_t room = lakhdzeva_thumbprints_room(keys.length), length = 0;
     void *place = malloc(room);
-    return answer(env, place ? lakhdzeva_thumbprints(keys.octets, keys.length, 256, place, room, &length) : LAKHDZEVA_MEMORY, place, length);
+    enum lakhdzeva_status status = LAKHDZEVA_MEMORY;
+    if (place) status = lakhdzeva_thumbprints(keys.octets, keys.length, 256, place, room, &length);
+    return answer(env, status, place, length);
 }
 
 static napi_value sign(napi_env env, napi_callback_info info) {

@@ -1,7 +1,7 @@
 """Tries what examples/ has for services, with an installed library: the judges of claims in Python, Go, Rust and C with the cases of
 examples/claims/cases.json, and the web services in these languages with tokens that Python's hmac signed.
 """
-import asyncio, contextlib, http.client, json, os, pathlib, re, resource, shutil, subprocess, sys, tempfile, time
+import asyncio, concurrent.futures, contextlib, http.client, json, os, pathlib, re, resource, shutil, subprocess, sys, tempfile, time
 
 from lib.standards import RFC7515_KEY
 from lib.texts import b64, flattened, key_set, oct_key, octets_of, signed
@@ -37,7 +37,7 @@ def shows(what, *words, **options):
 # ---- each language
 
 
-def in_python(work, usr, environment):
+def in_python(environment):
     environment = environment | {"PYTHONPATH": f"{environment['PYTHONPATH']}:{EXAMPLES}/python"}
     service = [sys.executable, EXAMPLES / "python/token-service.py"]
     yield Built("Python", [sys.executable, JUDGES / "judge.py"], service, environment, [sys.executable, JUDGES / "false_service.py", service[1]])
@@ -61,14 +61,10 @@ def in_c(work, usr, environment):
         yield Built("C", [judge], [service], environment, ["env", f"LD_PRELOAD={false}", service])
 
 
-def go_words(work, usr, environment):
-    return environment | {"GOCACHE": str(work / "go"), "GOTOOLCHAIN": "local", "GOFLAGS": "-mod=mod", "GOPROXY": "off"}
-
-
 def in_go(work, usr, environment):
     if not shutil.which("go") or not shutil.which("pkg-config"):
         return left_out("the service in Go", "there is no go or no pkg-config")
-    environment = go_words(work, usr, environment)
+    environment = environment | {"GOCACHE": str(work / "go"), "GOTOOLCHAIN": "local", "GOFLAGS": "-mod=mod", "GOPROXY": "off"}
     folders = {"service": work / "service-go", "judge": work / "judge-go"}
     for name, folder in folders.items():
         shutil.copytree(EXAMPLES / "go/token-service", folder)
@@ -78,8 +74,10 @@ def in_go(work, usr, environment):
     built = [shows(f"go builds the {name} outside of the repository", "go", "build", "-o", folder / name, env=environment, cwd=folder) for name, folder in folders.items()]
     built.append(shows("go vet finds nothing in the service", "go", "vet", "./...", env=environment, cwd=folders["service"]))
     if all(built):
-        service, false = folders["service"] / "service", work / "false_verify.so"
-        yield Built("Go", [folders["judge"] / "judge"], [service], environment, ["env", f"LD_PRELOAD={false}", service] if false.exists() else None)
+        service, false = folders["service"] / "service", work / "false_verify_go.so"
+        flags = run("pkg-config", "--cflags", "--libs", "lakhdzeva", env=environment)[1].split()
+        faulty = shutil.which("cc") and shows("a library that refuses compiles", "cc", *STRICT, "-shared", "-fPIC", JUDGES / "false_verify.c", *flags, "-ldl", "-o", false)
+        yield Built("Go", [folders["judge"] / "judge"], [service], environment, ["env", f"LD_PRELOAD={false}", service] if faulty else None)
 
 
 def in_rust(work, usr, environment):
@@ -370,13 +368,21 @@ def try_service(built, folder):
         check(f"{built.name}: a library without memory is 500, and its cause is not sent", [] if answers == [FAULT, BAD_TOKEN] else [repr(answers)])
 
 
-def try_all(work, usr, environment):
-    """Tries the judge and the service of each language, with the library that is installed in `usr`."""
+@contextlib.contextmanager
+def building(work, usr, environment):
+    """Builds the judges and the services of the languages while other things are tried. Gives a function that waits for them and tries them, with
+    the library that is installed in `usr`. The Python package may be installed by then in another folder."""
+    with concurrent.futures.ThreadPoolExecutor(2) as pool:
+        builds = [pool.submit(lambda language: list(language(work, usr, environment)), language) for language in (in_go, in_rust, in_c)]
+        yield lambda environment: try_all(environment, builds)
+
+
+def try_all(environment, builds):
+    """Tries the judge and the service of each language."""
     resource.setrlimit(resource.RLIMIT_NOFILE, (min(8192, resource.getrlimit(resource.RLIMIT_NOFILE)[1]), resource.getrlimit(resource.RLIMIT_NOFILE)[1]))
     check_lengths()
     try_pyjwt()
-    for language in in_python, in_c, in_go, in_rust:
-        for built in language(work, usr, environment):
-            with tempfile.TemporaryDirectory() as folder:
-                try_claims(built)
-                try_service(built, pathlib.Path(folder))
+    for built in [*in_python(environment), *(it for build in builds for it in build.result())]:
+        with tempfile.TemporaryDirectory() as folder:
+            try_claims(built)
+            try_service(built, pathlib.Path(folder))
