@@ -95,8 +95,14 @@ def in_rust(work, usr, environment):
     environment = environment | {"LAKHDZEVA_LIB_DIR": f"{usr}/lib", "CARGO_TARGET_DIR": str(work / "rust-service")}
     if run("cargo", "generate-lockfile", "--offline", "--quiet", env=environment, cwd=folder)[0]:
         return left_out("the service in Rust", "there is no serde_json (librust-serde-json-dev)")
-    if shows("cargo builds the service outside of the repository", "cargo", "build", "--offline", "--quiet", env=environment, cwd=folder):
-        yield Built("Rust", [work / "rust-service/debug/judge"], [work / "rust-service/debug/token-service"], environment)
+    if not shows("cargo builds the service outside of the repository", "cargo", "build", "--offline", "--quiet", env=environment, cwd=folder):
+        return
+    made, service, false, faulty = work / "rust-service/debug/token-service", work / "service-rust-bin", work / "false_verify.o", None
+    shutil.copy(made, service)
+    if shutil.which("cc") and shows("a verify that refuses compiles", "cc", *STRICT, "-DWRAPPED", f"-I{usr}/include", "-c", JUDGES / "false_verify.c", "-o", false):
+        wrapped = [f"-Clink-arg={false}", "-Clink-arg=-Wl,--wrap=lakhdzeva_verify"]
+        faulty = [made] * shows("cargo links it", "cargo", "rustc", "--offline", "--quiet", "--bin", "token-service", "--", *wrapped, env=environment, cwd=folder)
+    yield Built("Rust", [work / "rust-service/debug/judge"], [service], environment, faulty)
 
 
 # ---- claims
@@ -361,7 +367,7 @@ def try_service(built, folder):
         check(f"{built.name}: it still runs", [] if process.poll() is None and answer_of(port, f"Bearer {made}")[0] == 200 else ["it ended"])
     reads_again(built, folder)
     if not built.faulty:
-        return left_out(f"{built.name}: a library without memory", "the service has the archive in it, or there is no cc")
+        return left_out(f"{built.name}: a library without memory", "there is no cc")
     with started(built.faulty, folder, built.environment) as (port, _, errors):
         put(folder, RFC7515_KEY)
         answers = [answer_of(port, f"Bearer {it}") for it in ("FAULT.FAULT.FAULT", "FAULT.FAULT.fAULT")] if port else errors()
