@@ -73,7 +73,8 @@ vectors:
 library:
 	@scripts/library
 
-# Proves and builds the library for C, and tries it from C, C++, Python, Rust and Go, with the inputs of `make hostile` too, from SEED.
+# Proves and builds the library for C, and tries it from C, C++, Python, Rust, Go and Node.js, with the inputs of `make hostile` too, from SEED.
+# It also tries the packages of these languages, and the web services of examples/.
 bindings:
 	@scripts/bindings $(SEED)
 
@@ -131,9 +132,9 @@ interop:
 latchset:
 	@scripts/latchset
 
-# Makes a release in out/: a tarball, four Debian packages and their checksums in SHA256SUMS. If `make static` made the static programs, it
-# also makes a tarball for each and a Debian package for ARM64. It refuses a tree that has changes, or whose CHANGELOG.md does not begin with
-# the release of VERSION.
+# Makes a release in out/: a tarball, four Debian packages, a wheel for Python and their checksums in SHA256SUMS. If `make static` made the
+# static programs, it also makes a tarball for each, and for ARM64 a Debian package and a wheel. It refuses a tree that has changes, or whose
+# CHANGELOG.md does not begin with the release of VERSION.
 dist:
 	@scripts/dist
 

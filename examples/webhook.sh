@@ -17,23 +17,24 @@ jose jwk gen -i '{"alg":"HS256","kid":"hook"}' -o hook.jwk
 printf '{"number":41,"event":"paid"}' > body
 signature=$(jose jws sig -c -k hook.jwk -I body -O /dev/null)
 
-# A service in Python. The body is standard input. The signature is a pipe, which jose opens as /dev/fd/N; it has to fit into the pipe,
-# so its length is limited. It must be in compact form, since the JSON form can have several signatures, each of which costs work.
+# A service in Python, with the library. The body is standard input. The signature must be in compact form, and its length is limited, since the
+# JSON form can have several signatures, each of which costs work. A fault of the service's own, such as a broken key, ends it with an error.
 cat > service.py <<'END'
-import os, re, subprocess, sys
+import re, sys
+import lakhdzeva
+
+keys = lakhdzeva.Keys.from_file("hook.jwk")
 
 def verified(signature, body):
-    if not re.fullmatch(rb"[A-Za-z0-9_.-]{1,1000}", signature):
+    if not re.fullmatch(r"[A-Za-z0-9_.-]{1,1000}", signature):
         return False
-    reader, writer = os.pipe()
-    os.write(writer, signature)
-    os.close(writer)
-    words = ["jose", "jws", "ver", "-i", f"/dev/fd/{reader}", "-I", "-", "-k", "hook.jwk"]
-    done = subprocess.run(words, input=body, pass_fds=[reader], stderr=subprocess.DEVNULL)
-    os.close(reader)
-    return done.returncode == 0
+    try:
+        lakhdzeva.verify_detached(keys, signature, body)
+    except lakhdzeva.BadToken:
+        return False
+    return True
 
-sys.exit(not verified(sys.argv[1].encode(), sys.stdin.buffer.read()))
+sys.exit(not verified(sys.argv[1], sys.stdin.buffer.read()))
 END
 
 # A service in bash. The body is standard input, and the signature is a pipe.
@@ -42,9 +43,16 @@ cat > service.bash <<'END'
 jose jws ver -i <(printf %s "$1") -I - -k hook.jwk 2>/dev/null
 END
 
-# Both accept the request.
-for service in 'python3 service.py' 'bash service.bash'; do
-    if command -v "${service%% *}" >/dev/null; then
-        $service "$signature" < body
+# accepts SERVICE: each accepts the request, and refuses another body. What the machine lacks is left out.
+accepts() {
+    $1 "$signature" < body
+    if printf '{"number":41,"event":"free"}' | $1 "$signature"; then
+        exit 1
     fi
-done
+}
+if python3 -c 'import lakhdzeva' 2>/dev/null; then
+    accepts 'python3 service.py'
+fi
+if command -v bash >/dev/null; then
+    accepts 'bash service.bash'
+fi

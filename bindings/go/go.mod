@@ -1,3 +1,3 @@
-module lakhdzeva
+module lakhdzeva.example/lakhdzeva/v3
 
 go 1.19

@@ -1,18 +1,17 @@
 // Package lakhdzeva signs and verifies (JWS, RFC 7515), encrypts and decrypts (JWE, RFC 7516), makes keys (JWK, RFC 7517) and computes
-// their thumbprints (RFC 7638), with octet keys.
+// their thumbprints (RFC 7638), with octet keys. It calls the proved library lakhdzeva by cgo, which makes all decisions.
 //
-// It is an example of calling the library lakhdzeva by cgo. The library does the work and makes all decisions.
+// A service reads its keys once, when it starts, as [Keys]: they are judged then, so that a later error is about the token. Each function here
+// takes the JSON text of keys instead, and reads it again at each call.
 //
-// Build it with the header and the library that pkg-config knows:
-//
-//	CGO_CFLAGS="$(pkg-config --cflags lakhdzeva)" CGO_LDFLAGS="$(pkg-config --libs lakhdzeva)" go build
-//
-// A copy in your program can have the line "#cgo pkg-config: lakhdzeva" above its include instead.
+// pkg-config says where the header and the library are. With the build tag lakhdzeva_flags, CGO_CFLAGS and CGO_LDFLAGS say it instead.
 //
 // The arguments:
 //   - keys is the JSON text of one key, or of a set.
 //   - wanted is a JSON template: the headers of a token, or the members of a key. If it is nil, the keys decide.
 //   - form is the serialization of an object that is written.
+//
+// An error is a [Refusal], such as [ErrNotOpened], for errors.Is and errors.As.
 //
 // What to mind with every function:
 //   - The keys say whom you trust. Never take them from the object.
@@ -42,33 +41,44 @@ import (
 	"unsafe"
 )
 
-// Refusal is the number of a cause for which a call has no answer. The numbers are stable.
+// Refusal is the error of a call that has no answer. Its number is stable. Ask for one with errors.Is(err, ErrNotOpened).
 type Refusal uint32
 
 // The refusals. The comments of enum lakhdzeva_status in lakhdzeva.h say when each occurs.
 const (
-	Usage         Refusal = C.LAKHDZEVA_USAGE
-	Read          Refusal = C.LAKHDZEVA_READ
-	Write         Refusal = C.LAKHDZEVA_WRITE
-	Memory        Refusal = C.LAKHDZEVA_MEMORY
-	Random        Refusal = C.LAKHDZEVA_RANDOM
-	Base64        Refusal = C.LAKHDZEVA_BASE64
-	JSON          Refusal = C.LAKHDZEVA_JSON
-	Number        Refusal = C.LAKHDZEVA_NUMBER
-	Key           Refusal = C.LAKHDZEVA_KEY
-	BadForm       Refusal = C.LAKHDZEVA_FORM
-	Header        Refusal = C.LAKHDZEVA_HEADER
-	Unsupported   Refusal = C.LAKHDZEVA_UNSUPPORTED
-	NoAlgorithm   Refusal = C.LAKHDZEVA_NO_ALGORITHM
-	KeyDoesNotFit Refusal = C.LAKHDZEVA_KEY_DOES_NOT_FIT
-	Limit         Refusal = C.LAKHDZEVA_LIMIT
-	NotCompact    Refusal = C.LAKHDZEVA_NOT_COMPACT
-	NotOpened     Refusal = C.LAKHDZEVA_NOT_OPENED
+	ErrUsage         Refusal = C.LAKHDZEVA_USAGE
+	ErrRead          Refusal = C.LAKHDZEVA_READ
+	ErrWrite         Refusal = C.LAKHDZEVA_WRITE
+	ErrMemory        Refusal = C.LAKHDZEVA_MEMORY
+	ErrRandom        Refusal = C.LAKHDZEVA_RANDOM
+	ErrBase64        Refusal = C.LAKHDZEVA_BASE64
+	ErrJSON          Refusal = C.LAKHDZEVA_JSON
+	ErrNumber        Refusal = C.LAKHDZEVA_NUMBER
+	ErrKey           Refusal = C.LAKHDZEVA_KEY
+	ErrForm          Refusal = C.LAKHDZEVA_FORM
+	ErrHeader        Refusal = C.LAKHDZEVA_HEADER
+	ErrUnsupported   Refusal = C.LAKHDZEVA_UNSUPPORTED
+	ErrNoAlgorithm   Refusal = C.LAKHDZEVA_NO_ALGORITHM
+	ErrKeyDoesNotFit Refusal = C.LAKHDZEVA_KEY_DOES_NOT_FIT
+	ErrLimit         Refusal = C.LAKHDZEVA_LIMIT
+	ErrNotCompact    Refusal = C.LAKHDZEVA_NOT_COMPACT
+	ErrNotOpened     Refusal = C.LAKHDZEVA_NOT_OPENED
 )
 
 // Error returns the number, a space and the name, such as "17 NotOpened".
 func (refusal Refusal) Error() string {
 	return fmt.Sprintf("%d %s", uint32(refusal), C.GoString(C.lakhdzeva_name(C.uint32_t(refusal))))
+}
+
+// Fault says whether the refusal is about this machine or the keys, and not about a token: a service answers 500, and not 401. It is right for
+// each error of a Keys, which were judged before. Of a function that reads a text of keys, other refusals can be about the keys too.
+func (refusal Refusal) Fault() bool {
+	return refusal <= ErrRandom || refusal == ErrKey || refusal == ErrNoAlgorithm || refusal > ErrNotOpened
+}
+
+// Version returns the version of the library, such as "3.0.0".
+func Version() string {
+	return C.GoString(C.lakhdzeva_version())
 }
 
 // Form is the serialization of an object that is written.
@@ -129,13 +139,35 @@ func size(octets []byte) C.size_t {
 func answer(room C.size_t, call func(place []byte, length *C.size_t) uint32) ([]byte, error) {
 	// A slice cannot have more.
 	if uint64(room) > 1<<47 {
-		return nil, Memory
+		return nil, ErrMemory
 	}
 	place, length := make([]byte, room), C.size_t(0)
 	if status := call(place, &length); status != C.LAKHDZEVA_OK {
 		return nil, Refusal(status)
 	}
 	return place[:length:length], nil
+}
+
+// answers calls with two places, of which each room always suffices.
+func answers(room, roomBeside C.size_t, call func(place, beside []byte, length, lengthBeside *C.size_t) uint32) ([]byte, []byte, error) {
+	var beside []byte
+	var lengthBeside C.size_t
+	place, err := answer(room, func(place []byte, length *C.size_t) uint32 {
+		beside = make([]byte, roomBeside)
+		return call(place, beside, length, &lengthBeside)
+	})
+	if err != nil {
+		return nil, nil, err
+	}
+	return place, beside[:lengthBeside:lengthBeside], nil
+}
+
+// status returns the error that a status means.
+func status(status uint32) error {
+	if status == C.LAKHDZEVA_OK {
+		return nil
+	}
+	return Refusal(status)
 }
 
 // compact returns the flag of a form, and whether it is one of the two forms. Another number could be another flag of the header.
@@ -167,16 +199,30 @@ func Thumbprints(keys []byte, hash Hash) (string, error) {
 // Sign signs the payload with each of the keys, and returns the object. The payload is in the object as it is, and not secret. In the
 // template `protected` is signed, and `header` is a header that is not signed.
 func Sign(keys, wanted []byte, form Form, payload []byte) ([]byte, error) {
+	return sign(keys, wanted, form, 0, payload)
+}
+
+// SignDetached signs the payload with each of the keys, and returns the object without the payload (RFC 7515, appendix F). The rest is as for
+// Sign.
+func SignDetached(keys, wanted []byte, form Form, payload []byte) ([]byte, error) {
+	return sign(keys, wanted, form, C.LAKHDZEVA_DETACH, payload)
+}
+
+func sign(keys, wanted []byte, form Form, detach C.uint, payload []byte) ([]byte, error) {
 	flags, known := compact(form)
 	if !known {
-		return nil, Usage
+		return nil, ErrUsage
 	}
 	wanted = template(wanted)
-	room := C.lakhdzeva_sign_room(size(keys), size(wanted), size(payload))
+	inside := size(payload)
+	if detach != 0 {
+		inside = 0
+	}
+	room := C.lakhdzeva_sign_room(size(keys), size(wanted), inside)
 	return answer(room, func(object []byte, length *C.size_t) uint32 {
 		return uint32(C.lakhdzeva_sign(
 			unsafe.Pointer(&some(keys)[0]), size(keys),
-			unsafe.Pointer(&some(wanted)[0]), size(wanted), flags,
+			unsafe.Pointer(&some(wanted)[0]), size(wanted), flags|detach,
 			unsafe.Pointer(&some(payload)[0]), size(payload),
 			unsafe.Pointer(&some(object)[0]), size(object), length))
 	})
@@ -201,10 +247,19 @@ func Verify(keys, object []byte, signers Signers) ([]byte, error) {
 	})
 }
 
+// VerifyDetached verifies the object with this payload, which is not in the object (RFC 7515, appendix F). An object that has its own payload
+// is refused with ErrForm. The rest is as for Verify.
+func VerifyDetached(keys, object []byte, signers Signers, payload []byte) error {
+	return status(uint32(C.lakhdzeva_verify_detached(
+		unsafe.Pointer(&some(keys)[0]), size(keys),
+		unsafe.Pointer(&some(object)[0]), size(object), C.uint(signers),
+		unsafe.Pointer(&some(payload)[0]), size(payload))))
+}
+
 // VerifyAll verifies that each key of the set signed the object, and returns its payload. The text has exactly so many keys as there are
 // signers. It is for rules about people, such as "Ann and Bob must both sign". A bad key is refused as by Sign. Another number of keys is
-// refused with Key, and so are two keys that sign alike: HMAC fills a short key with zeros and hashes a long one (RFC 2104), so keys that
-// differ can make the same signatures. It is NotOpened unless each key made a signature.
+// refused with ErrKey, and so are two keys that sign alike: HMAC fills a short key with zeros and hashes a long one (RFC 2104), so keys that
+// differ can make the same signatures. It is ErrNotOpened unless each key made a signature.
 //   - Use one call for one rule: two calls with two sets both succeed by one signature, if its key is in both sets.
 //   - It counts keys, not people: whoever has two keys signs for two. So let each person compare the thumbprint of his key.
 //   - The host that verifies has all keys, so it could sign as well.
@@ -220,6 +275,15 @@ func VerifyAll(keys []byte, signers int, object []byte) ([]byte, error) {
 	})
 }
 
+// VerifyAllDetached verifies that each key of the set signed the object with this payload, which is not in the object (RFC 7515, appendix F). The
+// rest is as for VerifyAll.
+func VerifyAllDetached(keys []byte, signers int, object, payload []byte) error {
+	return status(uint32(C.lakhdzeva_verify_all_detached(
+		unsafe.Pointer(&some(keys)[0]), size(keys), C.size_t(signers),
+		unsafe.Pointer(&some(object)[0]), size(object),
+		unsafe.Pointer(&some(payload)[0]), size(payload))))
+}
+
 // Encrypt encrypts the plaintext to each of the keys, and returns the object.
 //   - The recipients share its random key, so each of them can put another plaintext into the object.
 //   - When a host leaves, make a new key for each recipient that stays.
@@ -228,24 +292,40 @@ func VerifyAll(keys []byte, signers int, object []byte) ([]byte, error) {
 //   - Use a key for at most 2^32 objects with AES-GCM key wrap, or with `dir` and a GCM.
 //   - In the template `unprotected` is a header that is not authenticated, and `aad` is a text that everyone can read.
 func Encrypt(keys, wanted []byte, form Form, plaintext []byte) ([]byte, error) {
+	object, _, err := encrypt(keys, wanted, form, 0, plaintext)
+	return object, err
+}
+
+// EncryptDetached encrypts the plaintext to each of the keys, and returns the object without its ciphertext, and the ciphertext. The rest is as
+// for Encrypt.
+func EncryptDetached(keys, wanted []byte, form Form, plaintext []byte) (object, ciphertext []byte, err error) {
+	return encrypt(keys, wanted, form, C.LAKHDZEVA_DETACH, plaintext)
+}
+
+func encrypt(keys, wanted []byte, form Form, detach C.uint, plaintext []byte) ([]byte, []byte, error) {
 	flags, known := compact(form)
 	if !known {
-		return nil, Usage
+		return nil, nil, ErrUsage
 	}
 	wanted = template(wanted)
-	room := C.lakhdzeva_encrypt_room(size(keys), size(wanted), size(plaintext))
-	return answer(room, func(object []byte, length *C.size_t) uint32 {
+	roomInside, roomBeside := size(plaintext), C.size_t(0)
+	if detach != 0 {
+		roomInside, roomBeside = 0, C.lakhdzeva_ciphertext_room(size(plaintext))
+	}
+	room := C.lakhdzeva_encrypt_room(size(keys), size(wanted), roomInside)
+	return answers(room, roomBeside, func(object, ciphertext []byte, length, lengthBeside *C.size_t) uint32 {
 		return uint32(C.lakhdzeva_encrypt(
 			unsafe.Pointer(&some(keys)[0]), size(keys),
-			unsafe.Pointer(&some(wanted)[0]), size(wanted), flags,
+			unsafe.Pointer(&some(wanted)[0]), size(wanted), flags|detach,
 			unsafe.Pointer(&some(plaintext)[0]), size(plaintext),
-			unsafe.Pointer(&some(object)[0]), size(object), length, nil, 0, nil))
+			unsafe.Pointer(&some(object)[0]), size(object), length,
+			unsafe.Pointer(&some(ciphertext)[0]), size(ciphertext), lengthBeside))
 	})
 }
 
 // Decrypt decrypts the object with one of the keys, and returns the plaintext. It tries no password: DecryptWithIterations does. The
 // ciphertext is nil if it is in the object. An empty ciphertext that is kept apart is an empty slice that is not nil.
-//   - A password may have any length, so every key without `alg` fits, and an object for a password is refused with Limit.
+//   - A password may have any length, so every key without `alg` fits, and an object for a password is refused with ErrLimit.
 //   - The recipients share its random key, so each of them can put another plaintext into the object.
 //   - A malicious writer can make an object that opens to two plaintexts for two recipients.
 //   - It notices a changed `aad`, but does not judge its text.
@@ -259,7 +339,7 @@ func Decrypt(keys, object, ciphertext []byte) ([]byte, error) {
 // of PBKDF2 in all.
 //   - An object names its iterations itself, so a stranger's costs seconds: 2,000,000 for each recipient, and 16,000,000 in all. A greater
 //     number means 16,000,000.
-//   - The sum counts each recipient with each key that fits. If it is above the number, the call is Limit, before any derivation.
+//   - The sum counts each recipient with each key that fits. If it is above the number, the call is ErrLimit, before any derivation.
 //   - A password may have any length, so every key without `alg` fits. Give each key an `alg`: then one that is no password costs no
 //     iteration.
 //   - Name 600,000 for one password of today's recommendation.
@@ -279,5 +359,75 @@ func DecryptWithIterations(keys, object, ciphertext []byte, iterations uint64) (
 			unsafe.Pointer(&some(object)[0]), size(object),
 			unsafe.Pointer(&some(ciphertext)[0]), size(ciphertext), C.uint64_t(iterations),
 			unsafe.Pointer(&some(plaintext)[0]), size(plaintext), length))
+	})
+}
+
+// FormatSigned writes a signed object in this form (RFC 7515, section 7). It sees no key and verifies nothing. Unknown members are left out. The
+// payload is nil if it is in the object. A payload that is handed in becomes part of the object.
+func FormatSigned(object, payload []byte, form Form) ([]byte, error) {
+	text, _, err := format(signedObject, object, payload, form, 0)
+	return text, err
+}
+
+// FormatSignedDetached writes a signed object in this form without its payload, and returns it and the payload (RFC 7515, appendix F). It
+// verifies nothing. The rest is as for FormatSigned.
+func FormatSignedDetached(object, payload []byte, form Form) (text, detached []byte, err error) {
+	return format(signedObject, object, payload, form, C.LAKHDZEVA_DETACH)
+}
+
+// FormatEncrypted writes an encrypted object in this form (RFC 7516, section 7). It sees no key and decrypts nothing. Unknown members are left
+// out. The ciphertext is nil if it is in the object. A ciphertext that is handed in becomes part of the object.
+func FormatEncrypted(object, ciphertext []byte, form Form) ([]byte, error) {
+	text, _, err := format(encryptedObject, object, ciphertext, form, 0)
+	return text, err
+}
+
+// FormatEncryptedDetached writes an encrypted object in this form without its ciphertext, and returns it and the ciphertext. It decrypts
+// nothing. The rest is as for FormatEncrypted.
+func FormatEncryptedDetached(object, ciphertext []byte, form Form) (text, detached []byte, err error) {
+	return format(encryptedObject, object, ciphertext, form, C.LAKHDZEVA_DETACH)
+}
+
+// What is formatted.
+const (
+	signedObject = iota
+	encryptedObject
+)
+
+func format(kind int, object, content []byte, form Form, detach C.uint) ([]byte, []byte, error) {
+	flags, known := compact(form)
+	if !known {
+		return nil, nil, ErrUsage
+	}
+	lengthInside, roomBeside := size(content), C.size_t(0)
+	if detach != 0 {
+		lengthInside, roomBeside = 0, C.lakhdzeva_content_room(size(object), size(content))
+	}
+	room := C.lakhdzeva_format_room(size(object), lengthInside)
+	return answers(room, roomBeside, func(text, detached []byte, length, lengthBeside *C.size_t) uint32 {
+		switch {
+		case kind == signedObject && content == nil:
+			return uint32(C.lakhdzeva_format_signed(
+				unsafe.Pointer(&some(object)[0]), size(object), nil, 0, flags|detach,
+				unsafe.Pointer(&some(text)[0]), size(text), length,
+				unsafe.Pointer(&some(detached)[0]), size(detached), lengthBeside))
+		case kind == signedObject:
+			return uint32(C.lakhdzeva_format_signed(
+				unsafe.Pointer(&some(object)[0]), size(object),
+				unsafe.Pointer(&some(content)[0]), size(content), flags|detach,
+				unsafe.Pointer(&some(text)[0]), size(text), length,
+				unsafe.Pointer(&some(detached)[0]), size(detached), lengthBeside))
+		case content == nil:
+			return uint32(C.lakhdzeva_format_encrypted(
+				unsafe.Pointer(&some(object)[0]), size(object), nil, 0, flags|detach,
+				unsafe.Pointer(&some(text)[0]), size(text), length,
+				unsafe.Pointer(&some(detached)[0]), size(detached), lengthBeside))
+		default:
+			return uint32(C.lakhdzeva_format_encrypted(
+				unsafe.Pointer(&some(object)[0]), size(object),
+				unsafe.Pointer(&some(content)[0]), size(content), flags|detach,
+				unsafe.Pointer(&some(text)[0]), size(text), length,
+				unsafe.Pointer(&some(detached)[0]), size(detached), lengthBeside))
+		}
 	})
 }

@@ -58,7 +58,7 @@ func TestThumbprints(t *testing.T) {
 		got, err := Thumbprints([]byte(rfc7516Key), hash)
 		expect(t, []byte(got), err, want)
 	}
-	if _, err := Thumbprints([]byte(rfc7516Key), 160); err != Usage {
+	if _, err := Thumbprints([]byte(rfc7516Key), 160); err != ErrUsage {
 		t.Errorf("got %v", err)
 	}
 }
@@ -109,43 +109,43 @@ func key(characters int) []byte {
 
 func TestRefusals(t *testing.T) {
 	got, err := Verify(key(86), []byte("eyJhbGciOiJIUzI1NiJ9.aGk.A="), One)
-	refuse(t, got, err, Base64)
+	refuse(t, got, err, ErrBase64)
 	got, err = Generate([]byte{})
-	refuse(t, got, err, JSON)
+	refuse(t, got, err, ErrJSON)
 	got, err = Generate([]byte(`{"alg":"HS256","n":1.5}`))
-	refuse(t, got, err, Number)
+	refuse(t, got, err, ErrNumber)
 	got, err = Verify([]byte("{}"), []byte(rfc7515A1), One)
-	refuse(t, got, err, Key)
+	refuse(t, got, err, ErrKey)
 	got, err = Verify(key(86), nil, One)
-	refuse(t, got, err, BadForm)
+	refuse(t, got, err, ErrForm)
 	got, err = Decrypt([]byte(rfc7516Key), []byte(rfc7516A3), []byte("other"))
-	refuse(t, got, err, BadForm)
+	refuse(t, got, err, ErrForm)
 	got, err = Verify(key(86), []byte("e30.aGk."), One)
-	refuse(t, got, err, Header)
+	refuse(t, got, err, ErrHeader)
 	got, err = Generate([]byte(`{"alg":"RS256"}`))
-	refuse(t, got, err, Unsupported)
+	refuse(t, got, err, ErrUnsupported)
 	got, err = Generate(nil)
-	refuse(t, got, err, NoAlgorithm)
+	refuse(t, got, err, ErrNoAlgorithm)
 	got, err = Decrypt(key(2), []byte(rfc7516A3), nil)
-	refuse(t, got, err, KeyDoesNotFit)
+	refuse(t, got, err, ErrKeyDoesNotFit)
 	got, err = Generate([]byte(`{"bytes":4097}`))
-	refuse(t, got, err, Limit)
+	refuse(t, got, err, ErrLimit)
 	set := []byte(fmt.Sprintf(`{"keys":[%s,%s]}`, key(86), key(64)))
 	got, err = Sign(set, nil, Compact, nil)
-	refuse(t, got, err, NotCompact)
+	refuse(t, got, err, ErrNotCompact)
 	got, err = Verify(key(86), []byte(rfc7515A1), One)
-	refuse(t, got, err, NotOpened)
+	refuse(t, got, err, ErrNotOpened)
 	got, err = Verify(set, nil, 8)
-	refuse(t, got, err, Usage)
+	refuse(t, got, err, ErrUsage)
 }
 
 // A form that is none of the two is no flag of the header: 2 would leave the payload out of the object.
 func TestOtherForms(t *testing.T) {
 	for _, form := range []Form{2, 3, 4, 1 << 31} {
 		got, err := Sign([]byte(rfc7515Key), nil, form, []byte("hello"))
-		refuse(t, got, err, Usage)
+		refuse(t, got, err, ErrUsage)
 		got, err = Encrypt([]byte(rfc7516Key), nil, form, []byte("hello"))
-		refuse(t, got, err, Usage)
+		refuse(t, got, err, ErrUsage)
 	}
 }
 
@@ -169,11 +169,11 @@ func TestVerifyAll(t *testing.T) {
 	expect(t, got, err, "hello")
 	for _, object := range []string{signedByOne, signedByOther} {
 		got, err = VerifyAll(both, 2, []byte(object))
-		refuse(t, got, err, NotOpened)
+		refuse(t, got, err, ErrNotOpened)
 	}
 	for _, signers := range []int{-1 << 63, -1, 0, 1, 3, 64, 65, 1<<63 - 1} {
 		got, err = VerifyAll(both, signers, []byte(signedByBoth))
-		refuse(t, got, err, Key)
+		refuse(t, got, err, ErrKey)
 	}
 	// A key of another type, a damaged one, the same one again, and the same octets with one of zero after them.
 	others := []string{`{"kty":"RSA","n":"AA","e":"AQAB"}`, `{"kty":"oct","k":"AAEC!"}`, otherKey,
@@ -183,10 +183,10 @@ func TestVerifyAll(t *testing.T) {
 		got, err = Verify(set, []byte(signedByOther), All)
 		expect(t, got, err, "hello")
 		got, err = VerifyAll(set, 2, []byte(signedByOther))
-		refuse(t, got, err, Key)
+		refuse(t, got, err, ErrKey)
 	}
 	got, err = VerifyAll(nil, 0, []byte(signedByOther))
-	refuse(t, got, err, JSON)
+	refuse(t, got, err, ErrJSON)
 }
 
 // No password is tried unless the caller names a number of iterations. The object asks for 2,000,000:
@@ -200,14 +200,14 @@ func TestIterations(t *testing.T) {
 	}
 	for _, keys := range [][]byte{key(22), setOf(many...)} {
 		got, err := Decrypt(keys, costly, nil)
-		refuse(t, got, err, Limit)
+		refuse(t, got, err, ErrLimit)
 		for _, iterations := range []uint64{0, 1, 600000, 1999999} {
 			got, err = DecryptWithIterations(keys, costly, nil, iterations)
-			refuse(t, got, err, Limit)
+			refuse(t, got, err, ErrLimit)
 		}
 	}
 	got, err := DecryptWithIterations(setOf(many...), costly, nil, 1<<64-1)
-	refuse(t, got, err, Limit)
+	refuse(t, got, err, ErrLimit)
 	object, err := Encrypt(setOf(string(key(2)), string(key(3))), []byte(`{"protected":{"alg":"PBES2-HS256+A128KW","p2c":1000}}`), Object, []byte("secret"))
 	if err != nil {
 		t.Fatal(err)
@@ -215,9 +215,9 @@ func TestIterations(t *testing.T) {
 	got, err = DecryptWithIterations(key(2), object, nil, 2000)
 	expect(t, got, err, "secret")
 	got, err = DecryptWithIterations(key(2), object, nil, 1999)
-	refuse(t, got, err, Limit)
+	refuse(t, got, err, ErrLimit)
 	got, err = Decrypt(key(2), object, nil)
-	refuse(t, got, err, Limit)
+	refuse(t, got, err, ErrLimit)
 }
 
 func TestErrors(t *testing.T) {
@@ -230,7 +230,7 @@ func TestErrors(t *testing.T) {
 	}
 	_, err := Verify(key(86), []byte(rfc7515A1), One)
 	var refusal Refusal
-	if !errors.As(fmt.Errorf("token: %w", err), &refusal) || refusal != NotOpened {
+	if !errors.As(fmt.Errorf("token: %w", err), &refusal) || refusal != ErrNotOpened {
 		t.Errorf("got %v", err)
 	}
 }
@@ -251,7 +251,7 @@ func TestEmptyCiphertext(t *testing.T) {
 	plaintext, err = Decrypt(gcm, apart, []byte{})
 	expect(t, plaintext, err, "")
 	plaintext, err = Decrypt(gcm, apart, nil)
-	refuse(t, plaintext, err, BadForm)
+	refuse(t, plaintext, err, ErrForm)
 }
 
 // The octets may be next to pointers in memory.

@@ -1,7 +1,9 @@
-"""Builds the wheel and the source archive of the package, as PEP 517 asks. It needs only Python's standard library.
+"""Builds the wheel, the editable wheel and the source archive of the package, as PEP 517 and PEP 660 ask. It needs only Python's standard
+library.
 
-The version is the first word of the file VERSION, which is in this folder or at the top of the repository.
-If src/lakhdzeva/ holds the shared library, the wheel holds it too, and is for this machine's kind only.
+The version is the first word of the file VERSION, which is in this folder or at the top of the repository. If src/lakhdzeva/ holds the shared
+library, the wheel holds it too, and is for the processor of this library. It names no C library, so pip installs it under glibc and under
+musl: both have each function that it asks for, glibc since 2.25 and musl since 1.2.
 """
 
 from __future__ import annotations
@@ -9,14 +11,16 @@ from __future__ import annotations
 import base64
 import hashlib
 import io
-import sysconfig
 import tarfile
 import zipfile
 from pathlib import Path
 from typing import Any, Dict, Optional
 
 _HERE = Path(__file__).resolve().parent
-_LIBRARY = "liblakhdzeva.so.3"
+_PACKAGE = _HERE / "src" / "lakhdzeva"
+_LIBRARY = _PACKAGE / "liblakhdzeva.so.3"
+# The processors by their numbers in an ELF file.
+_PROCESSORS = {62: "x86_64", 183: "aarch64"}
 
 
 def _file(name: str) -> Path:
@@ -44,8 +48,11 @@ def _metadata() -> str:
         "Metadata-Version: 2.1\n"
         "Name: lakhdzeva\n"
         f"Version: {_version()}\n"
-        "Summary: Sign, verify, encrypt and decrypt with octet keys (JWS, JWE and JWK), by a proved library\n"
+        "Summary: Sign, verify, encrypt and decrypt with octet keys (JWS, JWE, JWK and JWT), by a proved library\n"
+        "Keywords: jose,jwt,jws,jwe,jwk,hmac\n"
         "License: Apache-2.0\n"
+        "Classifier: Operating System :: POSIX :: Linux\n"
+        "Classifier: Topic :: Security :: Cryptography\n"
         "Classifier: Typing :: Typed\n"
         "Requires-Python: >=3.9\n"
         "Description-Content-Type: text/markdown\n"
@@ -53,29 +60,30 @@ def _metadata() -> str:
     )
 
 
-def build_wheel(wheel_directory: str, config_settings: Optional[Dict[str, Any]] = None, metadata_directory: Optional[str] = None) -> str:
-    """Writes the wheel and returns its name. The same sources give the same octets."""
-    package = _HERE / "src" / "lakhdzeva"
-    has_library = (package / _LIBRARY).is_file()
-    system = sysconfig.get_platform().replace("-", "_").replace(".", "_") if has_library else "any"
-    tag = f"py3-none-{system}"
+def _system() -> str:
+    """What the wheel is for: each system, or those that can load the shared library."""
+    if not _LIBRARY.is_file():
+        return "any"
+    number = int.from_bytes(_LIBRARY.read_bytes()[18:20], "little")
+    if number not in _PROCESSORS:
+        raise ValueError(f"{_LIBRARY} is for another processor: {number}")
+    return f"manylinux_2_25_{_PROCESSORS[number]}.musllinux_1_2_{_PROCESSORS[number]}"
+
+
+def _wheel(folder: str, files: Dict[str, bytes], system: str) -> str:
+    """Writes a wheel with these files, and returns its name. The same files give the same octets."""
     info = f"lakhdzeva-{_version()}.dist-info"
-    names = ["__init__.py", "py.typed"] + [_LIBRARY] * has_library
-    files = {f"lakhdzeva/{name}": (package / name).read_bytes() for name in names}
-    files["lakhdzeva/VERSION"] = f"{_version()}\n".encode()
-    files[f"{info}/METADATA"] = _metadata().encode()
-    files[f"{info}/WHEEL"] = (
-        f"Wheel-Version: 1.0\nGenerator: lakhdzeva\nRoot-Is-Purelib: {str(not has_library).lower()}\nTag: {tag}\n".encode()
-    )
+    files = {**files, f"{info}/METADATA": _metadata().encode()}
+    tags = "".join(f"Tag: py3-none-{it}\n" for it in system.split("."))
+    files[f"{info}/WHEEL"] = f"Wheel-Version: 1.0\nGenerator: lakhdzeva\nRoot-Is-Purelib: {str(system == 'any').lower()}\n{tags}".encode()
     files.update({f"{info}/{name}": octets for name, octets in _license().items()})
-    record = f"{info}/RECORD"
     rows = []
     for name, octets in files.items():
         digest = base64.urlsafe_b64encode(hashlib.sha256(octets).digest()).rstrip(b"=").decode()
         rows.append(f"{name},sha256={digest},{len(octets)}\n")
-    files[record] = "".join(rows + [f"{record},,\n"]).encode()
-    wheel = f"lakhdzeva-{_version()}-{tag}.whl"
-    with zipfile.ZipFile(Path(wheel_directory) / wheel, "w") as archive:
+    files[f"{info}/RECORD"] = "".join([*rows, f"{info}/RECORD,,\n"]).encode()
+    wheel = f"lakhdzeva-{_version()}-py3-none-{system}.whl"
+    with zipfile.ZipFile(Path(folder) / wheel, "w") as archive:
         for name, octets in files.items():
             entry = zipfile.ZipInfo(name)
             entry.external_attr = 0o100644 << 16
@@ -83,11 +91,23 @@ def build_wheel(wheel_directory: str, config_settings: Optional[Dict[str, Any]] 
     return wheel
 
 
+def build_wheel(wheel_directory: str, config_settings: Optional[Dict[str, Any]] = None, metadata_directory: Optional[str] = None) -> str:
+    """Writes the wheel and returns its name."""
+    paths = [*sorted(_PACKAGE.glob("*.py")), _PACKAGE / "py.typed", *[_LIBRARY] * _LIBRARY.is_file()]
+    files = {f"lakhdzeva/{path.name}": path.read_bytes() for path in paths}
+    return _wheel(wheel_directory, {**files, "lakhdzeva/VERSION": f"{_version()}\n".encode()}, _system())
+
+
+def build_editable(wheel_directory: str, config_settings: Optional[Dict[str, Any]] = None, metadata_directory: Optional[str] = None) -> str:
+    """Writes a wheel that leads Python to the sources in this folder, and returns its name."""
+    return _wheel(wheel_directory, {"lakhdzeva.pth": f"{_PACKAGE.parent}\n".encode()}, "any")
+
+
 def build_sdist(sdist_directory: str, config_settings: Optional[Dict[str, Any]] = None) -> str:
     """Writes the source archive and returns its name."""
     top = f"lakhdzeva-{_version()}"
-    names = ["pyproject.toml", "backend.py", "README.md", "src/lakhdzeva/__init__.py", "src/lakhdzeva/py.typed", "tests/test_lakhdzeva.py"]
-    files = {name: (_HERE / name).read_bytes() for name in names}
+    paths = [_HERE / "pyproject.toml", _HERE / "backend.py", _HERE / "README.md", *_PACKAGE.glob("*.py"), _PACKAGE / "py.typed", *_HERE.glob("tests/*.py")]
+    files = {str(path.relative_to(_HERE)): path.read_bytes() for path in sorted(paths)}
     files["VERSION"] = _file("VERSION").read_bytes()
     files.update(_license())
     files["PKG-INFO"] = _metadata().encode()

@@ -11,6 +11,11 @@ fn main() {
     println!("cargo:rerun-if-changed=build.rs");
     println!("cargo:rerun-if-env-changed={FOLDER}");
     println!("cargo:rerun-if-env-changed=PKG_CONFIG_PATH");
+    // docs.rs sets it. The pages need no library.
+    println!("cargo:rerun-if-env-changed=DOCS_RS");
+    if env::var_os("DOCS_RS").is_some() {
+        return;
+    }
     match folder() {
         Ok(folder) => {
             println!("cargo:rerun-if-changed={}", folder.join(ARCHIVE).display());

@@ -1,71 +1,116 @@
 #!/usr/bin/env python3
-"""A web service that answers only requests with a token that one of its keys signed:
+"""A web service that answers only requests with a valid token (RFC 6750):
 
      jose jwk gen -i '{"alg":"HS256"}' -o service.jwk
-     ./token-service.py service.jwk 8080
-     curl -H "Authorization: Bearer $(jose jws sig -c -k service.jwk -I claims.json)" http://127.0.0.1:8080/
+     python3 token-service.py service.jwk 8080 login api
+     printf '{"iss":"login","aud":"api","sub":"ann","exp":%d}' $(($(date +%s) + 600)) > claims.json
+     jose jws sig -c -k service.jwk -I claims.json | sed 's/^/Authorization: Bearer /' | curl -H @- http://127.0.0.1:8080/
 
-The claims are JSON, as RFC 7519 has them: {"sub":"web-7","exp":1790000000}. The library verifies the signature. Whether the token is valid
-now, and for whom it is, decides the service.
+The words are the file of the keys, the port, the issuer and the audience that each token must name. The file has one key, or a set of keys
+while one key replaces another. If it changes, the service reads it again. If the new keys are broken, it says so and keeps the old ones, so
+write a new file and rename it. A bad token is 401. What is not the sender's fault is 500. Put a server in front that speaks TLS.
 """
-import json, re, sys, time
+import json, os, re, sys, time, traceback
 from http.server import BaseHTTPRequestHandler, ThreadingHTTPServer
 
 import lakhdzeva
+from claims import claims_of
 
 # A longer header is not looked at, since the work grows with it.
 MOST_OCTETS = 4096
-# A JWT is in compact form (RFC 7519 section 3). JSON form could hold 256 signatures, and headers that nobody signed.
-CREDENTIALS = re.compile(r"bearer +([A-Za-z0-9_-]+\.[A-Za-z0-9_-]+\.[A-Za-z0-9_-]+)", re.IGNORECASE)
+# The scheme may be in small letters or capitals (RFC 9110 section 11.1). A JWT is in compact form.
+CREDENTIALS = re.compile(r"bearer +([A-Za-z0-9_.-]+)", re.ASCII | re.IGNORECASE)
+# Seconds by which the clocks may differ.
+LEEWAY = 30
 
 
-def is_date(value):
-    """Whether a claim is a number of seconds, perhaps with a fraction (RFC 7519 section 2). True and False are none."""
-    return type(value) in (int, float)
+class KeyFile:
+    """The keys in a file, which are read again when the file changes."""
 
+    def __init__(self, name):
+        self.name = name
+        self.seen, self.keys = self.look(), self.read()
 
-def claims_of(header, keys):
-    """The claims of a token that one of the keys signed and that is valid now, or None."""
-    found = CREDENTIALS.fullmatch(header) if len(header) <= MOST_OCTETS else None
-    if not found:
-        return None
-    try:
-        claims = json.loads(lakhdzeva.verify(keys, found[1]))
-    except (lakhdzeva.Refused, ValueError, RecursionError):
-        return None
-    # This service has no name, so it accepts no token that is for somebody else (RFC 7519 section 4.1.3).
-    if not isinstance(claims, dict) or not isinstance(claims.get("sub"), str) or "aud" in claims:
-        return None
-    begins, ends = claims.get("nbf", 0), claims.get("exp")
-    return claims if is_date(begins) and is_date(ends) and begins <= time.time() < ends else None
+    def look(self):
+        found = os.stat(self.name)
+        return found.st_ino, found.st_size, found.st_mtime_ns
+
+    def read(self):
+        keys = lakhdzeva.Keys.from_file(self.name)
+        if not keys.can_verify:
+            raise ValueError("no key in it may verify a signature")
+        print(f"token-service.py: {self.name}: keys: {len(keys)}", file=sys.stderr)
+        return keys
+
+    def now(self):
+        """The keys that the file has now, or had before it was broken."""
+        try:
+            seen = self.look()
+            if seen != self.seen:
+                self.seen = seen
+                self.keys = self.read()
+        except (OSError, ValueError, lakhdzeva.Refused) as fault:
+            print(f"token-service.py: {self.name} is not read again: {fault}", file=sys.stderr)
+        return self.keys
 
 
 class Service(BaseHTTPRequestHandler):
+    timeout = 10
+
     def do_GET(self):
-        claims = claims_of(self.headers.get("Authorization", ""), self.server.keys)
-        text = json.dumps({"you": claims["sub"]} if claims else {"error": "no valid token"}).encode()
-        self.send_response(200 if claims else 401)
+        try:
+            status, challenge, body = self.answer(self.headers.get("Authorization", ""))
+        except Exception:
+            # The keys or this machine are at fault. The sender need not know why.
+            traceback.print_exc()
+            status, challenge, body = 500, None, {"error": "the service has a fault"}
+        text = json.dumps(body).encode()
+        self.send_response(status)
+        if challenge:
+            self.send_header("WWW-Authenticate", challenge)
         self.send_header("Content-Type", "application/json")
         self.send_header("Content-Length", str(len(text)))
         self.end_headers()
         self.wfile.write(text)
 
+    def answer(self, header):
+        """The status, the challenge and the body of the answer."""
+        if not header:
+            return 401, "Bearer", {"error": "no token"}
+        found = CREDENTIALS.fullmatch(header) if len(header) <= MOST_OCTETS else None
+        try:
+            if not found:
+                raise ValueError("form")
+            token = found[1].encode()
+            payload = lakhdzeva.verify(self.server.keys.now(), token)
+            claims = claims_of(token, payload, time.time(), issuer=self.server.issuer, audience=self.server.audience, leeway=LEEWAY)
+            if type(claims.get("sub")) is not str:
+                raise ValueError("sub")
+        except (lakhdzeva.BadToken, ValueError) as fault:
+            print(f"token-service.py: a bad token: {fault}", file=sys.stderr)
+            return 401, 'Bearer error="invalid_token"', {"error": "no valid token"}
+        return 200, None, {"you": claims["sub"]}
+
     def log_message(self, *_):
         pass
 
 
+class Server(ThreadingHTTPServer):
+    # How many connections wait while threads are made for others.
+    request_queue_size = 1024
+
+
 def main():
-    if len(sys.argv) != 3:
-        sys.exit("usage: token-service.py KEYS PORT")
+    if len(sys.argv) != 5:
+        sys.exit("usage: token-service.py KEYS PORT ISSUER AUDIENCE")
+    name, port, issuer, audience = sys.argv[1:]
     try:
-        with open(sys.argv[1], "rb") as file:
-            keys = file.read()
         # Broken keys end the service here, and not at each request.
-        lakhdzeva.thumbprints(keys)
-    except (OSError, lakhdzeva.Refused) as fault:
-        sys.exit(f"token-service.py: {sys.argv[1]}: {fault}")
-    server = ThreadingHTTPServer(("127.0.0.1", int(sys.argv[2])), Service)
-    server.keys = keys
+        keys = KeyFile(name)
+    except (OSError, ValueError, lakhdzeva.Refused) as fault:
+        sys.exit(f"token-service.py: {name}: {fault}")
+    server = Server(("127.0.0.1", int(port)), Service)
+    server.keys, server.issuer, server.audience = keys, issuer, audience
     print(f"listening on port {server.server_address[1]}", flush=True)
     server.serve_forever()
 

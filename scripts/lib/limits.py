@@ -13,8 +13,8 @@ from lib.manual import plain
 from lib.trial import TOP, check
 
 TEXTS = ["README.md", "SECURITY.md", "docs/SPECIFICATION.md", "docs/LIBRARY.md", "docs/FROM-LATCHSET.md", "docs/ARCHITECTURE.md", "docs/PROOFS.md"]
-HEADER, SOURCE, PYTHON, GO = "bindings/c/lakhdzeva.h", "bindings/c/lakhdzeva.c", "bindings/python/src/lakhdzeva/__init__.py", "bindings/go/lakhdzeva.go"
-FILES = ["man/*.1", *TEXTS, "examples/*.sh", HEADER, PYTHON, "bindings/rust/src/*.rs", GO, "bindings/*/README.md"]
+HEADER, SOURCE, PYTHON, GO = "bindings/c/lakhdzeva.h", "bindings/c/lakhdzeva.c", "bindings/python/src/lakhdzeva/refusals.py", "bindings/go/lakhdzeva.go"
+FILES = ["man/*.1", *TEXTS, "examples/*.sh", HEADER, "bindings/python/src/lakhdzeva/*.py", "bindings/rust/src/*.rs", GO, "bindings/go/keys.go", "bindings/*/README.md"]
 NUMBER = r"\d+(?:,\d{3})*"
 # A number must not be part of a word, a name, a power or a longer number. These patterns exclude that before and behind it.
 BEFORE, BEHIND = r"(?<![\w^,.-])", r"(?![\w,.]*\d)"
@@ -66,7 +66,7 @@ OTHERS = [
     "[Tt]heirs writes 1,000",
     "(token of|Parts have) 100,000 octets",
     "256 KiB of stack",
-    "of 224, 256, 384",
+    "(of|in) [(]?224, 256, 384",
     '("S256":|Sha256 =>|Hash =|255,) 256',
     "template once, and 256 octets or less for a recipient",
     "[+] 2[)] [*] 256",
@@ -81,7 +81,7 @@ CODE = {
 }
 # How the bindings have a refusal: its number N, its name, and its name with underscores. In Go two names are other ones.
 REFUSALS = {
-    HEADER: ["LAKHDZEVA_{UPPER} = {N}"], SOURCE: ['"{NAME}",'], PYTHON: ["- {N} ``{NAME}``: "], GO: [" Refusal = C.LAKHDZEVA_{UPPER}\n"],
+    HEADER: ["LAKHDZEVA_{UPPER} = {N}"], SOURCE: ['"{NAME}",'], PYTHON: ["class {NAME}(Refused):", "number = {N}\n"], GO: [" Refusal = C.LAKHDZEVA_{UPPER}\n"],
     "bindings/rust/src/refusal.rs": ["Refusal::{NAME} => {N},"],
 }
 

@@ -1,5 +1,5 @@
 """Shared by the Python scripts: the paths of the repository and of the program, and the counts of what passed and failed."""
-import os, pathlib, re, subprocess, sys, time
+import os, pathlib, re, subprocess, sys, threading, time
 
 TOP = pathlib.Path(__file__).resolve().parents[2]
 # The program that `make build` made, or another build in its place.
@@ -9,6 +9,8 @@ LIBRARY = TOP / "crates/lakhdzeva/out/built"
 # The stream to which the lines are written.
 out = sys.stdout
 passed = failed = omitted = 0
+# Threads may count at the same time.
+COUNTING = threading.RLock()
 
 
 def needs(program):
@@ -56,14 +58,16 @@ def tell(line):
 
 def passes(what):
     global passed
-    passed += 1
-    tell(f"ok: {what}")
+    with COUNTING:
+        passed += 1
+        tell(f"ok: {what}")
 
 
 def fails(what):
     global failed
-    failed += 1
-    tell(f"FAILED: {what}")
+    with COUNTING:
+        failed += 1
+        tell(f"FAILED: {what}")
 
 
 def check(what, problems):
@@ -74,8 +78,9 @@ def check(what, problems):
 def left_out(what, why):
     """Prints that this is not tried on this machine, and counts it. That is no failure, unless more is left out than MOST_LEFT_OUT says."""
     global omitted
-    omitted += 1
-    tell(f"left out: {what}, since {why}")
+    with COUNTING:
+        omitted += 1
+        tell(f"left out: {what}, since {why}")
 
 
 def end():

@@ -19,6 +19,7 @@ import os
 import pickle
 import subprocess
 import sys
+import tempfile
 import threading
 import time
 import tracemalloc
@@ -28,7 +29,7 @@ from pathlib import Path
 from unittest import mock
 
 import lakhdzeva
-from lakhdzeva import Refused
+from lakhdzeva import BadToken, Fault, Refused, _library, refusals
 
 # RFC 7515 appendix A.1.
 RFC7515_KEY = (
@@ -141,12 +142,11 @@ def with_random(octets):
     """The functions of the module get these random octets in place of those of the system."""
 
     def of(name, at):
-        own = getattr(lakhdzeva, "_" + name)
-        arguments = own.argtypes
-        function = lakhdzeva._function(name + "_with_random", *arguments[:at], ctypes.c_char_p, ctypes.c_size_t, *arguments[at:])
+        arguments = getattr(_library, name).argtypes
+        function = _library.function(name + "_with_random", *arguments[:at], ctypes.c_char_p, ctypes.c_size_t, *arguments[at:])
         return lambda *given: function(*given[:at], octets, len(octets), *given[at:])
 
-    return mock.patch.multiple(lakhdzeva, _generate=of("generate", 2), _encrypt=of("encrypt", 5))
+    return mock.patch.multiple(_library, generate=of("generate", 2), encrypt=of("encrypt", 5))
 
 
 class Case(unittest.TestCase):
@@ -211,14 +211,16 @@ class Standards(Case):
         for name, hash_ in (("S224", "sha224"), ("S256", "sha256"), ("S384", "sha384"), ("S512", "sha512")):
             expected = [b64(hashlib.new(hash_, ('{"k":"%s","kty":"oct"}' % key["k"]).encode()).digest()) for key in keys]
             self.assertEqual(lakhdzeva.thumbprints(keys, name), expected)
+            self.assertEqual(lakhdzeva.thumbprints(keys, hash_), expected)
             self.assertEqual([lakhdzeva.thumbprint(key, name) for key in keys], expected)
+            self.assertEqual(lakhdzeva.Keys(keys).thumbprints(hash_), expected)
         self.assertEqual(lakhdzeva.thumbprint(keys[0]), lakhdzeva.thumbprint(keys[0], "S256"))
         self.assertEqual(lakhdzeva.thumbprints([{"kty": "RSA"}, keys[1]]), [lakhdzeva.thumbprint(keys[1])])
         with self.assertRaises(ValueError):
             lakhdzeva.thumbprint({"keys": keys})
 
 
-class Keys(Case):
+class Generated(Case):
     def test_keys_are_made(self):
         sizes = {"HS256": 32, "HS384": 48, "HS512": 64, "A128KW": 16, "A256GCMKW": 32, "A256CBC-HS512": 64, "A192GCM": 24}
         for name, size in sizes.items():
@@ -242,7 +244,7 @@ class Keys(Case):
 class Refusals(Case):
     def test_1_usage(self):
         self.refused(1, "Usage", lakhdzeva.thumbprint, A128, "S1")
-        self.refused(1, "Usage", lakhdzeva.thumbprints, [A128], "sha256")
+        self.refused(1, "Usage", lakhdzeva.thumbprints, [A128], "sha1")
 
     def test_5_random(self):
         with with_random(b""):
@@ -313,15 +315,29 @@ class Refusals(Case):
         self.refused(17, "NotOpened", lakhdzeva.decrypt, A128, RFC7516_A3)
 
     def test_a_refusal_is_a_value(self):
-        names = [Refused(number).name for number in range(1, 18)]
-        self.assertEqual(
-            names,
+        names = (
             "Usage Read Write Memory Random Base64 Json Number Key Form Header Unsupported NoAlgorithm KeyDoesNotFit Limit NotCompact "
-            "NotOpened".split(),
+            "NotOpened".split()
         )
+        self.assertEqual([Refused(number).name for number in range(1, 18)], names)
         self.assertEqual(Refused(18).name, "Unknown")
-        for copied in (pickle.loads(pickle.dumps(Refused(17))), copy.copy(Refused(17))):
-            self.assertEqual((copied.number, copied.name, str(copied)), (17, "NotOpened", "17 NotOpened"))
+        for number, name in enumerate(names, 1):
+            own = getattr(refusals, name)
+            self.assertEqual((own.number, own.name, str(own()), repr(own())), (number, name, f"{number} {name}", f"Refused({number} {name})"))
+            for parent, other in ((BadToken, Fault), (Fault, BadToken)):
+                made = refusals.refused(number, parent)
+                for it in (made, pickle.loads(pickle.dumps(made)), copy.copy(made), copy.deepcopy(made)):
+                    self.assertIs(type(it), type(made))
+                    self.assertIsInstance(it, own)
+                    self.assertIsInstance(it, parent)
+                    self.assertNotIsInstance(it, other)
+                    self.assertEqual((it.number, it.name, str(it)), (number, name, f"{number} {name}"))
+                    self.assertEqual(repr(it), f"{parent.__name__}({number} {name})")
+        for made in (Refused(17), refusals.NotOpened(), refusals.refused(18, BadToken)):
+            copied = pickle.loads(pickle.dumps(made))
+            self.assertEqual((type(copied), copied.number, str(copied)), (type(made), made.number, str(made)))
+        self.assertEqual(repr(refusals.refused(18, BadToken)), "BadToken(18 Unknown)")
+        self.assertEqual(sorted(refusals.__all__), sorted([*names, "BadToken", "Fault", "Refused"]))
         self.assertFalse(issubclass(Refused, (MemoryError, OSError, ValueError)))
 
     def test_every_changed_token_is_refused(self):
@@ -358,14 +374,13 @@ class Contents(Case):
         for payload in self.PAYLOADS:
             whole = token_of(FIRST, '{"alg":"HS256"}', payload)
             detached = whole.replace("." + b64(payload) + ".", "..")
-            self.assertEqual(lakhdzeva.sign(key_of(FIRST), payload, detach=True), detached)
+            self.assertEqual(lakhdzeva.sign_detached(key_of(FIRST), payload), detached)
             for kind in (bytes, bytearray, memoryview):
-                verified = lakhdzeva.verify(key_of(FIRST), detached, payload=kind(payload))
-                self.assertEqual((verified, type(verified)), (payload, bytes))
-            self.refused(17, "NotOpened", lakhdzeva.verify, key_of(FIRST), detached, payload=payload + b"x")
-            self.assertEqual(lakhdzeva.format_signed(whole, compact=True, detach=True), (detached, payload))
+                self.assertIsNone(lakhdzeva.verify_detached(key_of(FIRST), detached, kind(payload)))
+            self.refused(17, "NotOpened", lakhdzeva.verify_detached, key_of(FIRST), detached, payload + b"x")
+            self.assertEqual(lakhdzeva.format_signed_detached(whole, compact=True), (detached, payload))
             self.assertEqual(lakhdzeva.format_signed(detached, compact=True, payload=payload), whole)
-        self.refused(10, "Form", lakhdzeva.verify, RFC7515_KEY, RFC7515_A1, payload=RFC7515_CLAIMS)
+        self.refused(10, "Form", lakhdzeva.verify_detached, RFC7515_KEY, RFC7515_A1, RFC7515_CLAIMS)
         self.refused(17, "NotOpened", lakhdzeva.verify, key_of(FIRST), detached)
 
     def test_encrypted_contents_come_back(self):
@@ -373,7 +388,7 @@ class Contents(Case):
         for plaintext, name in itertools.product(self.PAYLOADS, names):
             wanted = {"protected": {"enc": name}}
             self.assertEqual(lakhdzeva.decrypt(A128, lakhdzeva.encrypt(A128, plaintext, wanted)), plaintext)
-            token, ciphertext = lakhdzeva.encrypt(A128, plaintext, wanted, compact=False, detach=True)
+            token, ciphertext = lakhdzeva.encrypt_detached(A128, plaintext, wanted, compact=False)
             self.assertNotIn("ciphertext", json.loads(token))
             for kind in (bytes, bytearray, memoryview):
                 opened = lakhdzeva.decrypt(A128, json.loads(token), ciphertext=kind(ciphertext))
@@ -385,11 +400,11 @@ class Contents(Case):
         parts = RFC7516_A3.split(".")
         ciphertext = unb64(parts[3])
         detached = ".".join(parts[:3] + ["", parts[4]])
-        self.assertEqual(lakhdzeva.format_encrypted(RFC7516_A3, compact=True, detach=True), (detached, ciphertext))
+        self.assertEqual(lakhdzeva.format_encrypted_detached(RFC7516_A3, compact=True), (detached, ciphertext))
         self.assertEqual(lakhdzeva.format_encrypted(detached, compact=True, ciphertext=ciphertext), RFC7516_A3)
         self.assertEqual(lakhdzeva.decrypt(RFC7516_KEY, detached, ciphertext=ciphertext), LINE)
         with with_random(RFC7516_RANDOM):
-            made = lakhdzeva.encrypt(RFC7516_KEY, LINE, {"protected": {"enc": "A128CBC-HS256"}}, detach=True)
+            made = lakhdzeva.encrypt_detached(RFC7516_KEY, LINE, {"protected": {"enc": "A128CBC-HS256"}})
         self.assertEqual(made, (detached, ciphertext))
 
     def test_a_part_of_a_memoryview(self):
@@ -402,17 +417,176 @@ class Contents(Case):
         tracemalloc.start()
         for _ in range(2):
             before = tracemalloc.get_traced_memory()[0]
-            token = lakhdzeva.sign(RFC7515_KEY, content, detach=True)
-            lakhdzeva.verify(RFC7515_KEY, token, payload=content)
-            lakhdzeva.verify_all(RFC7515_KEY, 1, token, payload=content)
+            token = lakhdzeva.sign_detached(RFC7515_KEY, content)
+            lakhdzeva.verify_detached(RFC7515_KEY, token, content)
+            lakhdzeva.verify_all_detached(RFC7515_KEY, 1, token, content)
             lakhdzeva.verify(RFC7515_KEY, lakhdzeva.format_signed(token, payload=content))
-            token, ciphertext = lakhdzeva.encrypt(A128, content, detach=True)
+            token, ciphertext = lakhdzeva.encrypt_detached(A128, content)
             lakhdzeva.decrypt(A128, token, ciphertext=bytearray(ciphertext))
             lakhdzeva.decrypt(A128, lakhdzeva.format_encrypted(token, ciphertext=bytearray(ciphertext)))
             del token, ciphertext
         kept = tracemalloc.get_traced_memory()[0] - before
         tracemalloc.stop()
         self.assertLess(kept, len(content) // 2)
+
+
+class Judged(Case):
+    """Keys that are judged when they are read, and whose fault a refusal is."""
+
+    ONE = key_of(FIRST, alg="HS256")
+    # Texts of keys, and how they are refused.
+    BROKEN = [
+        ("", 7), ("a secret", 7), (json.dumps(ONE)[:-9], 7), (json.dumps(ONE) + "}", 7), (json.dumps({**ONE, "n": 1.5}), 8), ("{}", 9), ("[]", 9),
+        ('{"kty":"RSA","n":"AQAB","e":"AQAB"}', 9), ('{"keys":[]}', 9), (json.dumps(ONE).replace('"k": "', '"k": "='), 9),
+        (json.dumps({"keys": [ONE] * 65}), 15),
+    ]
+
+    def bad_tokens(self):
+        """Tokens that are bad for any keys, and how they are refused."""
+        many = {"payload": "", "signatures": [{"protected": b64(b'{"alg":"HS256"}'), "signature": "A" * 43}] * 257}
+        return [
+            (token_of(FIRST, '{"alg":"HS256"}', b"hi") + "=", 6), (token_of(FIRST, "{", b"hi"), 7), ('{"payload":', 7),
+            (token_of(FIRST, '{"alg":"HS256","n":1.5}', b"hi"), 8), ("", 10), ("a.b", 10), ("{}", 10), (token_of(FIRST, "{}", b"hi"), 11),
+            (token_of(FIRST, '{"alg":"none"}', b"hi"), 12), (token_of(FIRST, '{"alg":"RS256"}', b"hi"), 12), (json.dumps(many), 15),
+            (token_of(SECOND, '{"alg":"HS256"}', b"hi"), 17),
+        ]
+
+    def blames(self, parent, number, function, *arguments, **options):
+        with self.assertRaises(Refused) as caught:
+            function(*arguments, **options)
+        self.assertEqual(caught.exception.number, number, (function.__name__, arguments))
+        self.assertIsInstance(caught.exception, parent, (function.__name__, arguments))
+
+    def test_keys_of_each_source(self):
+        text = json.dumps(self.ONE, separators=(",", ":"))
+        token = lakhdzeva.sign(self.ONE, b"hi")
+        two = {"keys": [key_of(SECOND), self.ONE, {"kty": "RSA"}]}
+        with tempfile.TemporaryDirectory() as folder:
+            (Path(folder) / "keys").write_text(text)
+            files = [lakhdzeva.Keys.from_file(Path(folder) / "keys"), lakhdzeva.Keys.from_file(f"{folder}/keys")]
+            with self.assertRaises(OSError):
+                lakhdzeva.Keys.from_file(f"{folder}/another")
+        for keys in (*files, *map(lakhdzeva.Keys, (self.ONE, text, text.encode(), files[0]))):
+            self.assertEqual((len(keys), bytes(keys), keys.thumbprints()), (1, text.encode(), [lakhdzeva.thumbprint(self.ONE)]))
+            self.assertEqual(lakhdzeva.verify(keys, token), b"hi")
+        for keys in map(lakhdzeva.Keys, (two, two["keys"], json.dumps(two))):
+            self.assertEqual((len(keys), keys.thumbprints()), (2, lakhdzeva.thumbprints(two)))
+            self.assertEqual(lakhdzeva.verify(keys, token), b"hi")
+
+    def test_every_function_takes_keys(self):
+        keys, wrap = lakhdzeva.Keys(self.ONE), lakhdzeva.Keys(A128)
+        self.assertEqual(lakhdzeva.verify(keys, lakhdzeva.sign(keys, b"hi")), b"hi")
+        lakhdzeva.verify_detached(keys, lakhdzeva.sign_detached(keys, b"hi"), b"hi")
+        self.assertEqual(lakhdzeva.verify_all(keys, 1, lakhdzeva.sign(keys, b"hi")), b"hi")
+        lakhdzeva.verify_all_detached(keys, 1, lakhdzeva.sign_detached(keys, b"hi"), b"hi")
+        self.assertEqual(lakhdzeva.decrypt(wrap, lakhdzeva.encrypt(wrap, b"hi")), b"hi")
+        token, ciphertext = lakhdzeva.encrypt_detached(wrap, b"hi")
+        self.assertEqual(lakhdzeva.decrypt(wrap, token, ciphertext=ciphertext), b"hi")
+        self.assertEqual(lakhdzeva.thumbprints(keys), [lakhdzeva.thumbprint(keys)])
+
+    def test_broken_keys_are_a_fault(self):
+        good = lakhdzeva.sign(self.ONE, b"hi")
+        for text, number in self.BROKEN:
+            self.blames(Fault, number, lakhdzeva.Keys, text)
+            self.blames(Fault, number, lakhdzeva.thumbprints, text)
+            self.blames(Fault, number, lakhdzeva.sign, text, b"")
+            self.blames(Fault, number, lakhdzeva.encrypt, text, b"")
+            # The keys are the fault, whatever the token is.
+            for token in (good, *(token for token, _ in self.bad_tokens())):
+                self.blames(Fault, number, lakhdzeva.verify, text, token)
+                self.blames(Fault, number, lakhdzeva.verify_detached, text, token, b"")
+                self.blames(Fault, number, lakhdzeva.verify_all, text, 1, token)
+                self.blames(Fault, number, lakhdzeva.verify_all_detached, text, 1, token, b"")
+                self.blames(Fault, number, lakhdzeva.decrypt, text, token)
+
+    def test_a_bad_token_is_its_senders(self):
+        for token, number in self.bad_tokens():
+            for keys in (self.ONE, json.dumps(self.ONE), lakhdzeva.Keys(self.ONE), lakhdzeva.Keys([{"kty": "RSA"}, self.ONE])):
+                self.blames(BadToken, number, lakhdzeva.verify, keys, token)
+            if number not in (12, 17):
+                self.blames(BadToken, number, lakhdzeva.format_signed, token)
+        for keys in (self.ONE, lakhdzeva.Keys(self.ONE)):
+            self.blames(BadToken, 14, lakhdzeva.verify, keys, token_of(FIRST, '{"alg":"HS512"}', b"hi"))
+            self.blames(Fault, 9, lakhdzeva.verify_all, keys, 2, lakhdzeva.sign(keys, b"hi"))
+        for keys in (RFC7516_KEY, lakhdzeva.Keys(RFC7516_KEY)):
+            for token, number in (("", 10), (RFC7516_A3 + "=", 6), (RFC7516_A3[:-4] + "AAAA", 17), (RFC7515_A1, 10)):
+                self.blames(BadToken, number, lakhdzeva.decrypt, keys, token)
+        self.blames(BadToken, 16, lakhdzeva.format_encrypted, RFC7516_A4, compact=True)
+
+    def test_what_makes_tokens_is_the_callers(self):
+        keys = lakhdzeva.Keys(self.ONE)
+        for wanted, number in (("{", 7), ({"protected": {"n": 1.5}}, 8), ({"other": {}}, 10), ({"protected": {"alg": 1}}, 11), ({"protected": {"alg": "none"}}, 12)):
+            self.blames(Fault, number, lakhdzeva.sign, keys, b"", wanted)
+        self.blames(Fault, 14, lakhdzeva.encrypt, keys, b"")
+        self.blames(Fault, 13, lakhdzeva.generate)
+        self.blames(Fault, 16, lakhdzeva.sign, [self.ONE, self.ONE], b"")
+
+    def test_keys_that_verify_nothing(self):
+        for key in (A128, key_of(FIRST, use="enc"), key_of(FIRST, alg="A256KW"), key_of(FIRST, key_ops=["sign"]), key_of(bytes(31))):
+            keys = lakhdzeva.Keys(key)
+            self.assertFalse(keys.can_verify)
+            for it in (key, keys):
+                self.blames(Fault, 14, lakhdzeva.verify, it, RFC7515_A1)
+        for key in (self.ONE, key_of(bytes(48), alg="HS384"), key_of(bytes(64), alg="HS512"), key_of(FIRST, key_ops=["verify"]), [A128, key_of(FIRST)]):
+            self.assertTrue(lakhdzeva.Keys(key).can_verify)
+
+    def test_a_refused_allocation_is_a_fault(self):
+        for name in ("verify", "verify_all", "decrypt", "format_signed"):
+            with mock.patch.object(_library, name, lambda *_: 4):
+                for function, arguments in (
+                    (lakhdzeva.verify, (self.ONE, RFC7515_A1)), (lakhdzeva.verify_all, (self.ONE, 1, RFC7515_A1)),
+                    (lakhdzeva.decrypt, (A128, RFC7516_A3)), (lakhdzeva.format_signed, (RFC7515_A1,)),
+                ):
+                    if function.__name__ == name:
+                        self.blames(Fault, 4, function, *arguments)
+
+    def test_a_secret_of_octets(self):
+        keys = lakhdzeva.Keys.from_secret(FIRST, "HS256", "partner")
+        self.assertEqual(json.loads(bytes(keys)), key_of(FIRST, alg="HS256", kid="partner"))
+        self.assertEqual(lakhdzeva.verify(keys, token_of(FIRST, '{"alg":"HS256"}', b"hi")), b"hi")
+        for secret, alg in ((bytes(16), "A128KW"), (bytes(32), "A256GCM"), (b"a password", "PBES2-HS256+A128KW"), (bytes(64), "HS512")):
+            self.assertEqual(len(lakhdzeva.Keys.from_secret(secret, alg)), 1)
+        for secret, alg in ((bytes(31), "HS256"), (bytes(32), "HS512"), (b"short", "HS256"), (bytes(15), "A128KW"), (bytes(33), "A256GCM")):
+            self.blames(Fault, 14, lakhdzeva.Keys.from_secret, secret, alg)
+        self.blames(Fault, 9, lakhdzeva.Keys.from_secret, b"", "HS256")
+        for alg in ("RS256", "none", "", "HS257", "hs256"):
+            with self.assertRaises(Fault):
+                lakhdzeva.Keys.from_secret(bytes(32), alg)
+        with self.assertRaisesRegex(TypeError, "must be octets, not str"):
+            lakhdzeva.Keys.from_secret("a secret", "HS256")
+        with self.assertRaisesRegex(TypeError, "alg must be a str"):
+            lakhdzeva.Keys.from_secret(FIRST, None)
+
+    def test_nothing_secret_is_printed(self):
+        keys = lakhdzeva.Keys([self.ONE, key_of(SECOND)])
+        for text in (repr(keys), str(keys), f"{keys}", f"{keys!r}", "%s %r" % (keys, keys), repr([keys]), repr({"keys": keys})):
+            self.assertIn("<lakhdzeva.Keys: 2>", text)
+        with self.assertRaises(TypeError):
+            vars(keys)
+
+    def test_keys_are_copied(self):
+        keys = lakhdzeva.Keys(self.ONE)
+        for copied in (copy.copy(keys), copy.deepcopy(keys), pickle.loads(pickle.dumps(keys))):
+            self.assertEqual((bytes(copied), copied.thumbprints(), copied.can_verify), (bytes(keys), keys.thumbprints(), True))
+
+    def test_a_derived_class_of_keys(self):
+        class Other(lakhdzeva.Keys):
+            def __bytes__(self):
+                raise Lied
+
+            def __getattribute__(self, name):
+                raise Lied(name)
+
+        made = Other.__new__(Other)
+        for name in lakhdzeva.Keys.__slots__:
+            lakhdzeva.Keys.__dict__[name].__set__(made, getattr(lakhdzeva.Keys(self.ONE), name))
+        self.assertEqual(lakhdzeva.verify(made, token_of(FIRST, '{"alg":"HS256"}', b"hi")), b"hi")
+        self.blames(BadToken, 14, lakhdzeva.verify, made, token_of(FIRST, '{"alg":"HS512"}', b"hi"))
+
+    def test_a_list_of_thumbprints_is_a_copy(self):
+        keys = lakhdzeva.Keys(self.ONE)
+        keys.thumbprints().clear()
+        self.assertEqual(len(keys.thumbprints()), 1)
 
 
 class Sets(Case):
@@ -434,10 +608,10 @@ class Sets(Case):
 
     def test_all_with_a_detached_payload(self):
         keys = [key_of(FIRST), key_of(SECOND)]
-        token = lakhdzeva.sign(keys, b"text", compact=False, detach=True)
-        self.assertEqual(lakhdzeva.verify(keys, token, all=True, payload=b"text"), b"text")
-        self.refused(17, "NotOpened", lakhdzeva.verify, keys + [key_of(THIRD)], token, all=True, payload=b"text")
-        self.assertEqual(lakhdzeva.verify(keys + [key_of(THIRD)], token, payload=b"text"), b"text")
+        token = lakhdzeva.sign_detached(keys, b"text", compact=False)
+        self.assertIsNone(lakhdzeva.verify_detached(keys, token, b"text", all=True))
+        self.refused(17, "NotOpened", lakhdzeva.verify_detached, keys + [key_of(THIRD)], token, b"text", all=True)
+        self.assertIsNone(lakhdzeva.verify_detached(keys + [key_of(THIRD)], token, b"text"))
 
     def test_each_key_of_a_set_decrypts(self):
         keys = [A128, key_of(FIRST, alg="A256GCMKW"), key_of(b"a password", alg="PBES2-HS512+A256KW")]
@@ -462,12 +636,12 @@ class Signers(Case):
     def opens(self, keys, signers, token):
         self.assertEqual(lakhdzeva.verify_all(keys, signers, token), self.TEXT)
         apart = {name: value for name, value in token.items() if name != "payload"}
-        self.assertEqual(lakhdzeva.verify_all(keys, signers, apart, payload=self.TEXT), self.TEXT)
+        self.assertIsNone(lakhdzeva.verify_all_detached(keys, signers, apart, self.TEXT))
 
     def refuses(self, number, name, keys, signers, token):
         self.refused(number, name, lakhdzeva.verify_all, keys, signers, token)
         apart = {name: value for name, value in token.items() if name != "payload"}
-        self.refused(number, name, lakhdzeva.verify_all, keys, signers, apart, payload=self.TEXT)
+        self.refused(number, name, lakhdzeva.verify_all_detached, keys, signers, apart, self.TEXT)
 
     def test_each_key_made_a_signature(self):
         all_three = [FIRST, SECOND, THIRD]
@@ -484,7 +658,7 @@ class Signers(Case):
     def test_another_payload(self):
         token = signed_by(self.TEXT, FIRST, SECOND)
         token.pop("payload")
-        self.refused(17, "NotOpened", lakhdzeva.verify_all, [key_of(FIRST), key_of(SECOND)], 2, token, payload=b"other")
+        self.refused(17, "NotOpened", lakhdzeva.verify_all_detached, [key_of(FIRST), key_of(SECOND)], 2, token, b"other")
 
     def test_another_number_of_keys(self):
         token = signed_by(self.TEXT, FIRST, SECOND)
@@ -568,7 +742,7 @@ class Signers(Case):
         self.refused(9, "Key", lakhdzeva.verify_all, key_of(FIRST), 2, "a.b")
         self.refused(9, "Key", lakhdzeva.verify_all, [key_of(FIRST)] * 2, 2, "a.b")
         self.refused(10, "Form", lakhdzeva.verify_all, key_of(FIRST), 1, "a.b")
-        self.refused(10, "Form", lakhdzeva.verify_all, key_of(FIRST), 1, RFC7515_A1, payload=b"")
+        self.refused(10, "Form", lakhdzeva.verify_all_detached, key_of(FIRST), 1, RFC7515_A1, b"")
         self.refused(12, "Unsupported", lakhdzeva.verify_all, key_of(FIRST), 1, token_of(FIRST, '{"alg":"none"}', b""))
 
     def test_signers_are_a_number(self):
@@ -725,21 +899,35 @@ class Lies(Case):
         size = {"bytes": 20, "kid": "7"}
         return [
             (lakhdzeva.generate, {"wanted": [size, json.dumps(size), json.dumps(size).encode()]}),
-            (lakhdzeva.thumbprints, {"keys": keys, "hash": ["S256", "S512"]}),
-            (lakhdzeva.thumbprint, {"key": keys[:3], "hash": ["S256", "S512"]}),
-            (lakhdzeva.sign, {"keys": keys, "payload": contents, "wanted": templates, "compact": flags, "detach": flags}),
+            (lakhdzeva.thumbprints, {"keys": keys, "hash": ["S256", "sha512"]}),
+            (lakhdzeva.thumbprint, {"key": keys, "hash": ["S256", "S512"]}),
+            (self.of_keys, {"keys": keys}),
+            (self.of_secret, {"secret": contents}),
+            (lakhdzeva.sign, {"keys": keys, "payload": contents, "wanted": templates, "compact": flags}),
+            (lakhdzeva.sign_detached, {"keys": keys, "payload": contents, "wanted": templates, "compact": flags}),
             (lakhdzeva.verify, {"keys": keys, "token": [signed, compact, compact.encode()], "all": flags}),
-            (lakhdzeva.verify, {"keys": keys, "token": [apart], "all": flags, "payload": contents}),
+            (lakhdzeva.verify_detached, {"keys": keys, "token": [apart], "payload": contents, "all": flags}),
             (lakhdzeva.verify_all, {"keys": keys, "signers": [1, 2], "token": [signed, compact, compact.encode()]}),
-            (lakhdzeva.verify_all, {"keys": keys, "signers": [1, 2], "token": [apart], "payload": contents}),
-            (lakhdzeva.encrypt, {"keys": wraps, "plaintext": contents, "wanted": templates, "compact": flags, "detach": flags}),
+            (lakhdzeva.verify_all_detached, {"keys": keys, "signers": [1, 2], "token": [apart], "payload": contents}),
+            (lakhdzeva.encrypt, {"keys": wraps, "plaintext": contents, "wanted": templates, "compact": flags}),
+            (lakhdzeva.encrypt_detached, {"keys": wraps, "plaintext": contents, "wanted": templates, "compact": flags}),
             (lakhdzeva.decrypt, {"keys": wraps, "token": [a5, RFC7516_A3, RFC7516_A3.encode()], "iterations": [0, 5, 2**70]}),
             (lakhdzeva.decrypt, {"keys": wraps, "token": [a5_apart], "ciphertext": ciphertexts, "iterations": [0]}),
-            (lakhdzeva.format_signed, {"token": [signed, compact, compact.encode()], "compact": flags, "detach": flags}),
-            (lakhdzeva.format_signed, {"token": [apart], "compact": flags, "detach": flags, "payload": contents}),
-            (lakhdzeva.format_encrypted, {"token": [a5, RFC7516_A3, RFC7516_A3.encode()], "compact": flags, "detach": flags}),
-            (lakhdzeva.format_encrypted, {"token": [a5_apart], "compact": flags, "detach": flags, "ciphertext": ciphertexts}),
+            (lakhdzeva.format_signed, {"token": [signed, compact, compact.encode()], "compact": flags}),
+            (lakhdzeva.format_signed, {"token": [apart], "compact": flags, "payload": contents}),
+            (lakhdzeva.format_signed_detached, {"token": [signed, compact, compact.encode()], "compact": flags}),
+            (lakhdzeva.format_signed_detached, {"token": [apart], "compact": flags, "payload": contents}),
+            (lakhdzeva.format_encrypted, {"token": [a5, RFC7516_A3, RFC7516_A3.encode()], "compact": flags}),
+            (lakhdzeva.format_encrypted, {"token": [a5_apart], "compact": flags, "ciphertext": ciphertexts}),
+            (lakhdzeva.format_encrypted_detached, {"token": [a5, RFC7516_A3, RFC7516_A3.encode()], "compact": flags}),
+            (lakhdzeva.format_encrypted_detached, {"token": [a5_apart], "compact": flags, "ciphertext": ciphertexts}),
         ]
+
+    def of_keys(self, keys):
+        return bytes(lakhdzeva.Keys(keys))
+
+    def of_secret(self, secret):
+        return bytes(lakhdzeva.Keys.from_secret(secret, "PBES2-HS256+A128KW", "7"))
 
     def answer(self, function, arguments):
         """What the function gives, or its refusal, with random octets that are always the same."""
@@ -780,14 +968,15 @@ class Lies(Case):
         for other in (0, 1, None, "yes", [], Answering(), *(lying(1, way) for way in (0, 1))):
             for call in (
                 lambda: lakhdzeva.sign(A128, b"", compact=other),
-                lambda: lakhdzeva.sign(A128, b"", detach=other),
+                lambda: lakhdzeva.sign_detached(A128, b"", compact=other),
                 lambda: lakhdzeva.verify(RFC7515_KEY, token, all=other),
+                lambda: lakhdzeva.verify_detached(RFC7515_KEY, token, b"", all=other),
                 lambda: lakhdzeva.encrypt(A128, b"", compact=other),
-                lambda: lakhdzeva.encrypt(A128, b"", detach=other),
+                lambda: lakhdzeva.encrypt_detached(A128, b"", compact=other),
                 lambda: lakhdzeva.format_signed(token, compact=other),
-                lambda: lakhdzeva.format_signed(token, detach=other),
+                lambda: lakhdzeva.format_signed_detached(token, compact=other),
                 lambda: lakhdzeva.format_encrypted(a3, compact=other),
-                lambda: lakhdzeva.format_encrypted(a3, detach=other),
+                lambda: lakhdzeva.format_encrypted_detached(a3, compact=other),
             ):
                 with self.assertRaisesRegex(TypeError, "must be True or False"):
                     call()
@@ -828,8 +1017,8 @@ class Lies(Case):
         for view in views:
             expected = token_of(FIRST, '{"alg":"HS256"}', view.tobytes())
             self.assertEqual(lakhdzeva.sign(key_of(FIRST), view), expected)
-            detached = lakhdzeva.sign(key_of(FIRST), view, detach=True)
-            self.assertEqual(lakhdzeva.verify(key_of(FIRST), detached, payload=view), view.tobytes())
+            detached = lakhdzeva.sign_detached(key_of(FIRST), view)
+            self.assertIsNone(lakhdzeva.verify_detached(key_of(FIRST), detached, view))
         released = memoryview(octets)
         released.release()
         with self.assertRaises(ValueError):
@@ -838,13 +1027,13 @@ class Lies(Case):
     def test_a_bytearray_that_changes_during_the_call(self):
         for kind in (bytearray, *LYING[bytearray]):
             octets = kind(self.PAYLOAD)
-            called = lakhdzeva._sign
+            called = _library.sign
 
             def sign(*arguments):
                 bytearray.clear(octets)
                 return called(*arguments)
 
-            with mock.patch.object(lakhdzeva, "_sign", sign):
+            with mock.patch.object(_library, "sign", sign):
                 self.assertEqual(lakhdzeva.sign(key_of(FIRST), octets), token_of(FIRST, '{"alg":"HS256"}', self.PAYLOAD))
             self.assertEqual(bytearray.__len__(octets), 0)
 
@@ -864,6 +1053,9 @@ class Types(Case):
                 lambda: lakhdzeva.sign(other, b""),
                 lambda: lakhdzeva.verify(other, token),
                 lambda: lakhdzeva.verify_all(other, 1, token),
+                lambda: lakhdzeva.verify_detached(other, token, b""),
+                lambda: lakhdzeva.verify_all_detached(other, 1, token, b""),
+                lambda: lakhdzeva.Keys(other),
                 lambda: lakhdzeva.encrypt(other, b""),
                 lambda: lakhdzeva.decrypt(other, token),
                 lambda: lakhdzeva.thumbprint(other),
@@ -889,8 +1081,6 @@ class Types(Case):
                 lakhdzeva.thumbprint(A128, other)
         for other in ([], ["a"], [json.loads(key)]):
             with self.assertRaisesRegex(TypeError, "list"):
-                lakhdzeva.thumbprint(other)
-            with self.assertRaisesRegex(TypeError, "list"):
                 lakhdzeva.verify(key, other)
 
     def test_contents_are_octets(self):
@@ -899,8 +1089,8 @@ class Types(Case):
             calls = [lambda: lakhdzeva.sign(key, other), lambda: lakhdzeva.encrypt(key, other)]
             if other is not None:
                 calls += [
-                    lambda: lakhdzeva.verify(key, RFC7515_A1, payload=other),
-                    lambda: lakhdzeva.verify_all(key, 1, RFC7515_A1, payload=other),
+                    lambda: lakhdzeva.verify_detached(key, RFC7515_A1, other),
+                    lambda: lakhdzeva.verify_all_detached(key, 1, RFC7515_A1, other),
                     lambda: lakhdzeva.decrypt(key, RFC7516_A3, ciphertext=other),
                     lambda: lakhdzeva.format_signed(RFC7515_A1, payload=other),
                     lambda: lakhdzeva.format_encrypted(RFC7516_A3, ciphertext=other),
@@ -915,6 +1105,7 @@ class Types(Case):
             lambda: lakhdzeva.verify(A128, RFC7515_A1, True),
             lambda: lakhdzeva.encrypt(A128, b"", {}, True),
             lambda: lakhdzeva.verify_all(A128, 1, RFC7515_A1, b""),
+            lambda: lakhdzeva.verify_detached(A128, RFC7515_A1, b"", True),
             lambda: lakhdzeva.decrypt(A128, RFC7516_A3, b""),
             lambda: lakhdzeva.format_signed(RFC7515_A1, True),
             lambda: lakhdzeva.format_encrypted(RFC7516_A3, True),
@@ -939,7 +1130,11 @@ class Types(Case):
     def test_all_names_are_public(self):
         for name in lakhdzeva.__all__:
             self.assertTrue(getattr(lakhdzeva, name).__doc__)
-        public = "Refused decrypt encrypt format_encrypted format_signed generate sign thumbprint thumbprints verify verify_all"
+        public = (
+            "BadToken Fault Keys Refused decrypt encrypt encrypt_detached format_encrypted format_encrypted_detached format_signed "
+            "format_signed_detached generate library refusals sign sign_detached thumbprint thumbprints verify verify_all verify_all_detached "
+            "verify_detached"
+        )
         self.assertEqual(sorted(lakhdzeva.__all__), public.split())
 
 
@@ -948,8 +1143,8 @@ class Library(Case):
 
     def calls(self):
         """For each function with places: its arguments, and how many places it has."""
-        text, octets, flags = json.dumps(key_of(FIRST)).encode(), b"0123456789", lakhdzeva._COMPACT
-        wrap, detach = json.dumps(A128).encode(), lakhdzeva._DETACH
+        text, octets, flags = json.dumps(key_of(FIRST)).encode(), b"0123456789", _library.COMPACT
+        wrap, detach = json.dumps(A128).encode(), _library.DETACH
         signed, a3 = RFC7515_A1.encode(), RFC7516_A3.encode()
         rfc7515, rfc7516 = RFC7515_KEY.encode(), RFC7516_KEY.encode()
         size = b'{"bytes":20}'
@@ -973,7 +1168,7 @@ class Library(Case):
         for place, room, length in zip(places, rooms, lengths):
             rest += [(ctypes.c_char * len(place)).from_buffer(place), room, ctypes.byref(length)]
         with with_random(bytes(4096)):
-            status = getattr(lakhdzeva, "_" + name)(*arguments, *rest)
+            status = getattr(_library, name)(*arguments, *rest)
         return status, [length.value for length in lengths], [bytes(place) for place in places]
 
     def test_a_place_that_is_one_octet_too_small(self):
@@ -1004,12 +1199,12 @@ class Library(Case):
         template, wrap = b'{"bytes":20}', json.dumps(A128).encode()
         for count in (0, 19, 20):
             with with_random(bytes(count)):
-                status = lakhdzeva._generate(template, len(template), *lakhdzeva._Place(5000).arguments())
+                status = _library.generate(template, len(template), *_library.Place(5000).arguments())
                 self.assertEqual(status, 0 if count == 20 else 5)
         # A key of 32 octets and an initialization vector of 16, for A128CBC-HS256.
         for count in (0, 32, 47, 48):
             with with_random(bytes(count)):
-                status = lakhdzeva._encrypt(wrap, len(wrap), None, 0, 0, b"", 0, *lakhdzeva._Place(5000).arguments(), None, 0, None)
+                status = _library.encrypt(wrap, len(wrap), None, 0, 0, b"", 0, *_library.Place(5000).arguments(), None, 0, None)
                 self.assertEqual(status, 0 if count == 48 else 5)
 
     def test_a_content_that_is_not_detached_needs_no_place(self):
@@ -1023,13 +1218,13 @@ class Library(Case):
     def counted(self):
         """The rooms of the places of a call."""
         places = []
-        made = lakhdzeva._Place.__init__
+        made = _library.Place.__init__
 
         def counted(place, room):
             places.append(room)
             made(place, room)
 
-        return mock.patch.object(lakhdzeva._Place, "__init__", counted), places
+        return mock.patch.object(_library.Place, "__init__", counted), places
 
     def test_rooms_suffice(self):
         patch, places = self.counted()
@@ -1054,20 +1249,21 @@ class Library(Case):
                 for octets, payload, more in itertools.product((32, 48, 64), (0, 1, 2, 300), ({}, long)):
                     keys = [key_of(bytes(octets))] * count
                     for wanted in ({"protected": more}, {"header": more}, {"header": {"alg": "HS256"}, "protected": more}):
-                        for detach in (False, True):
-                            token = check(1, lakhdzeva.sign, keys, bytes(payload), wanted, compact=False, detach=detach)
+                        check(1, lakhdzeva.sign, keys, bytes(payload), wanted, compact=False)
+                        token = check(1, lakhdzeva.sign_detached, keys, bytes(payload), wanted, compact=False)
                         for form in (token, json.dumps(json.loads(token))):
                             check(2, lakhdzeva.format_signed, form, payload=bytes(payload))
-                            check(2, lakhdzeva.format_signed, form, payload=bytes(payload), detach=True)
+                            check(2, lakhdzeva.format_signed_detached, form, payload=bytes(payload))
             wraps = [(16, "A128KW"), (32, "A256KW"), (32, "A256GCMKW"), (1, "PBES2-HS256+A128KW"), (1, "PBES2-HS512+A256KW")]
             for count, (octets, name), enc in itertools.product((1, 2, 64), wraps, ("A256CBC-HS512", "A128GCM")):
                 text = '{"keys":[%s]}' % ",".join(['{"k":"%s","kty":"oct"}' % b64(bytes(octets))] * count)
                 header = {"alg": name, "enc": enc, **({"p2c": 1000} if name[0] == "P" else {})}
                 for wanted in ({"protected": header}, {"unprotected": header}, {"protected": {**header, **long}, "aad": "A" * 400}):
-                    for plaintext, detach in itertools.product((0, 15, 16, 300), (False, True)):
-                        answer = check(2, lakhdzeva.encrypt, text, bytes(plaintext), wanted, compact=False, detach=detach)
+                    for plaintext in (0, 15, 16, 300):
+                        check(2, lakhdzeva.encrypt, text, bytes(plaintext), wanted, compact=False)
+                        answer = check(2, lakhdzeva.encrypt_detached, text, bytes(plaintext), wanted, compact=False)
                     check(2, lakhdzeva.format_encrypted, answer[0], ciphertext=answer[1])
-                    check(2, lakhdzeva.format_encrypted, answer[0], ciphertext=answer[1], detach=True)
+                    check(2, lakhdzeva.format_encrypted_detached, answer[0], ciphertext=answer[1])
                 # Each of the keys is a password for each of the recipients.
                 opened = check(1, lakhdzeva.decrypt, text, answer[0], ciphertext=answer[1], iterations=1000 * count**2)
                 self.assertEqual(opened, bytes(300))
@@ -1075,13 +1271,13 @@ class Library(Case):
                 check(2, lakhdzeva.format_signed, token)
             for length, header in ((100000, {}), (0, {"a": "b" * 50000}), (100001, {"a": "b" * 100001})):
                 content, wanted = bytes(length), {"protected": header}
-                detached = check(1, lakhdzeva.sign, key_of(FIRST), content, wanted, detach=True)
+                detached = check(1, lakhdzeva.sign_detached, key_of(FIRST), content, wanted)
                 signed = check(1, lakhdzeva.sign, key_of(FIRST), content, wanted)
                 for token in (signed, check(2, lakhdzeva.format_signed, detached, payload=content)):
                     self.assertEqual(check(1, lakhdzeva.verify, key_of(FIRST), token), content)
-                    self.assertEqual(check(2, lakhdzeva.format_signed, token, compact=True, detach=True), (detached, content))
+                    self.assertEqual(check(2, lakhdzeva.format_signed_detached, token, compact=True), (detached, content))
                 token = check(2, lakhdzeva.encrypt, A128, content, wanted)
-                detached, ciphertext = check(2, lakhdzeva.format_encrypted, token, compact=True, detach=True)
+                detached, ciphertext = check(2, lakhdzeva.format_encrypted_detached, token, compact=True)
                 self.assertEqual(check(2, lakhdzeva.format_encrypted, detached, compact=True, ciphertext=ciphertext), token)
                 self.assertEqual(check(1, lakhdzeva.decrypt, A128, token), content)
                 self.assertEqual(check(1, lakhdzeva.decrypt, A128, detached, ciphertext=ciphertext), content)
@@ -1142,7 +1338,7 @@ class Loading(Case):
         return subprocess.run(words, env=environment, capture_output=True, text=True, check=True).stdout
 
     def test_the_variable_names_the_library(self):
-        self.assertEqual(self.run_with(lakhdzeva._LIBRARY._name), "imported\n")
+        self.assertEqual(self.run_with(lakhdzeva.library().file), "imported\n")
 
     def test_a_library_that_is_not_there(self):
         answer = self.run_with("/nowhere/liblakhdzeva.so.3")
@@ -1150,10 +1346,16 @@ class Loading(Case):
 
     def test_an_isolated_python_does_not_read_the_variable(self):
         # The system finds the library by its name.
-        folder = {"LD_LIBRARY_PATH": str(Path(lakhdzeva._LIBRARY._name).resolve().parent)}
+        folder = {"LD_LIBRARY_PATH": str(Path(lakhdzeva.library().file).resolve().parent)}
         self.assertRegex(self.run_with("/nowhere/liblakhdzeva.so.3", **folder), "^refused: ")
         for option in ("-I", "-E"):
             self.assertEqual(self.run_with("/nowhere/liblakhdzeva.so.3", option, **folder), "imported\n")
+
+    def test_it_says_what_is_loaded(self):
+        loaded = lakhdzeva.library()
+        self.assertTrue(Path(loaded.file).samefile(os.environ.get("LAKHDZEVA_LIBRARY") or loaded.file))
+        self.assertIn(loaded.file, Path("/proc/self/maps").read_text())
+        self.assertEqual(loaded.version, lakhdzeva.__version__)
 
     def test_another_library(self):
         self.assertRegex(self.run_with("libc.so.6"), "^refused: libc.so.6 is not version 3 of the shared library of lakhdzeva: ")

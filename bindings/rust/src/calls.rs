@@ -18,6 +18,7 @@ pub(crate) const ALL: u32 = 4;
 
 unsafe extern "C" {
     fn lakhdzeva_name(status: u32) -> *const c_char;
+    fn lakhdzeva_version() -> *const c_char;
     fn lakhdzeva_generate_room(wanted_length: usize) -> usize;
     fn lakhdzeva_generate(
         wanted: *const u8,
@@ -217,6 +218,12 @@ pub(crate) fn name(status: u32) -> &'static str {
     // SAFETY: the function takes each number. It returns a text in ASCII with a NUL at its end, which stays as it is.
     let name = unsafe { CStr::from_ptr(lakhdzeva_name(status)) };
     name.to_str().unwrap_or("Unknown")
+}
+
+pub(crate) fn version() -> &'static str {
+    // SAFETY: as in `name`.
+    let version = unsafe { CStr::from_ptr(lakhdzeva_version()) };
+    version.to_str().unwrap_or("unknown")
 }
 
 pub(crate) fn generate(wanted: &[u8]) -> Result<Vec<u8>, Refusal> {

@@ -4,14 +4,17 @@
 //! The work is done by the library lakhdzeva, which is proved. This crate passes octets to it, and decides nothing.
 //!
 //! ```
-//! use lakhdzeva::{generate, sign, verify, Form, Refusal, Signers};
+//! use lakhdzeva::{Form, Keys, Refusal};
 //!
-//! let key = generate(br#"{"alg":"HS256"}"#)?;
-//! let token = sign(&key, b"{}", Form::Compact, b"hello")?;
-//! assert_eq!(verify(&key, &token, Signers::One)?, b"hello");
-//!
-//! let other = generate(br#"{"alg":"HS256"}"#)?;
-//! assert_eq!(verify(&other, &token, Signers::One), Err(Refusal::NotOpened));
+//! // A service reads its keys once, when it starts. Then each refusal that is no fault is about the token.
+//! let keys = Keys::new(br#"{"kty":"oct","alg":"HS256","k":"AAECAwQFBgcICQoLDA0ODxAREhMUFRYXGBkaGxwdHh8"}"#)?;
+//! let token: String = keys.sign(b"{}", Form::Compact, b"hello")?;
+//! let payload = match keys.verify(token.as_bytes()) {
+//!     Ok(payload) => payload,
+//!     Err(refusal) if refusal.is_fault() => panic!("answer 500: {refusal}"),
+//!     Err(refusal) => panic!("answer 401: {refusal}"),
+//! };
+//! assert_eq!(payload, b"hello");
 //! # Ok::<(), Refusal>(())
 //! ```
 //!
@@ -45,9 +48,23 @@
 
 #[allow(unsafe_code)]
 mod calls;
+mod keys;
 mod refusal;
 
+pub use crate::keys::Keys;
 pub use crate::refusal::Refusal;
+
+/// The version of the library, such as `3.0.0`.
+#[must_use]
+pub fn version() -> &'static str {
+    calls::version()
+}
+
+/// What the library wrote, which is JSON or a compact text.
+fn text(octets: Vec<u8>) -> String {
+    // A message of `expect` would show the octets.
+    String::from_utf8(octets).unwrap_or_else(|_| panic!("the library writes UTF-8"))
+}
 
 /// The serialization of an object that is written.
 #[derive(Clone, Copy, Debug, PartialEq, Eq, Hash)]
@@ -147,8 +164,7 @@ pub fn generate(wanted: &[u8]) -> Result<Vec<u8>, Refusal> {
 /// # Ok::<(), Refusal>(())
 /// ```
 pub fn thumbprints(keys: &[u8], hash: Hash) -> Result<String, Refusal> {
-    let lines = calls::thumbprints(keys, hash.bits())?;
-    Ok(String::from_utf8(lines).expect("thumbprints are base64url texts and line feeds"))
+    calls::thumbprints(keys, hash.bits()).map(text)
 }
 
 /// Signs the payload with each of the keys, and returns the object (RFC 7515 section 5.1).
@@ -166,11 +182,11 @@ pub fn thumbprints(keys: &[u8], hash: Hash) -> Result<String, Refusal> {
 ///
 /// let key = br#"{"kty":"oct","alg":"HS256","k":"AAAAAAAAAAAAAAAAAAAAAAAAAAAAAAAAAAAAAAAAAAA"}"#;
 /// let token = sign(key, br#"{"protected":{"typ":"JWT"}}"#, Form::Compact, b"{}")?;
-/// assert!(token.starts_with(b"eyJhbGciOiJIUzI1NiIsInR5cCI6IkpXVCJ9.e30."));
+/// assert!(token.starts_with("eyJhbGciOiJIUzI1NiIsInR5cCI6IkpXVCJ9.e30."));
 /// # Ok::<(), Refusal>(())
 /// ```
-pub fn sign(keys: &[u8], wanted: &[u8], form: Form, payload: &[u8]) -> Result<Vec<u8>, Refusal> {
-    calls::sign(keys, wanted, form.flag(), payload)
+pub fn sign(keys: &[u8], wanted: &[u8], form: Form, payload: &[u8]) -> Result<String, Refusal> {
+    calls::sign(keys, wanted, form.flag(), payload).map(text)
 }
 
 /// Signs the payload with each of the keys, and returns the object without the payload (RFC 7515 appendix F).
@@ -182,7 +198,7 @@ pub fn sign(keys: &[u8], wanted: &[u8], form: Form, payload: &[u8]) -> Result<Ve
 ///
 /// let key = generate(br#"{"alg":"HS512"}"#)?;
 /// let object = sign_detached(&key, b"{}", Form::Json, b"a long text")?;
-/// verify_detached(&key, &object, Signers::One, b"a long text")?;
+/// verify_detached(&key, object.as_bytes(), Signers::One, b"a long text")?;
 /// # Ok::<(), Refusal>(())
 /// ```
 pub fn sign_detached(
@@ -190,8 +206,8 @@ pub fn sign_detached(
     wanted: &[u8],
     form: Form,
     payload: &[u8],
-) -> Result<Vec<u8>, Refusal> {
-    calls::sign(keys, wanted, form.flag() | calls::DETACH, payload)
+) -> Result<String, Refusal> {
+    calls::sign(keys, wanted, form.flag() | calls::DETACH, payload).map(text)
 }
 
 /// Verifies the object, and returns its payload (RFC 7515 section 5.2).
@@ -235,7 +251,7 @@ pub fn verify(keys: &[u8], object: &[u8], signers: Signers) -> Result<Vec<u8>, R
 ///
 /// let key = generate(br#"{"alg":"HS256"}"#)?;
 /// let object = sign_detached(&key, b"{}", Form::Compact, b"one")?;
-/// assert_eq!(verify_detached(&key, &object, Signers::One, b"two"), Err(Refusal::NotOpened));
+/// assert_eq!(verify_detached(&key, object.as_bytes(), Signers::One, b"two"), Err(Refusal::NotOpened));
 /// # Ok::<(), Refusal>(())
 /// ```
 pub fn verify_detached(
@@ -265,9 +281,9 @@ pub fn verify_detached(
 /// let (ann, bob) = (generate(br#"{"alg":"HS256"}"#)?, generate(br#"{"alg":"HS256"}"#)?);
 /// let people = [br#"{"keys":["#, &ann[..], b",", &bob, b"]}"].concat();
 /// let object = sign(&people, b"{}", Form::Json, b"release 7")?;
-/// assert_eq!(verify_all(&people, 2, &object)?, b"release 7");
+/// assert_eq!(verify_all(&people, 2, object.as_bytes())?, b"release 7");
 /// let object = sign(&ann, b"{}", Form::Json, b"release 7")?;
-/// assert_eq!(verify_all(&people, 2, &object), Err(Refusal::NotOpened));
+/// assert_eq!(verify_all(&people, 2, object.as_bytes()), Err(Refusal::NotOpened));
 /// # Ok::<(), Refusal>(())
 /// ```
 pub fn verify_all(keys: &[u8], signers: usize, object: &[u8]) -> Result<Vec<u8>, Refusal> {
@@ -283,8 +299,8 @@ pub fn verify_all(keys: &[u8], signers: usize, object: &[u8]) -> Result<Vec<u8>,
 ///
 /// let key = generate(br#"{"alg":"HS256"}"#)?;
 /// let object = sign_detached(&key, b"{}", Form::Compact, b"one")?;
-/// verify_all_detached(&key, 1, &object, b"one")?;
-/// assert_eq!(verify_all_detached(&key, 2, &object, b"one"), Err(Refusal::Key));
+/// verify_all_detached(&key, 1, object.as_bytes(), b"one")?;
+/// assert_eq!(verify_all_detached(&key, 2, object.as_bytes(), b"one"), Err(Refusal::Key));
 /// # Ok::<(), Refusal>(())
 /// ```
 pub fn verify_all_detached(
@@ -318,7 +334,7 @@ pub fn verify_all_detached(
 ///
 /// let key = generate(br#"{"alg":"A128KW"}"#)?;
 /// let object = encrypt(&key, br#"{"protected":{"enc":"A128GCM"}}"#, Form::Compact, b"secret")?;
-/// assert_eq!(decrypt(&key, &object, None)?, b"secret");
+/// assert_eq!(decrypt(&key, object.as_bytes(), None)?, b"secret");
 /// # Ok::<(), Refusal>(())
 /// ```
 pub fn encrypt(
@@ -326,8 +342,10 @@ pub fn encrypt(
     wanted: &[u8],
     form: Form,
     plaintext: &[u8],
-) -> Result<Vec<u8>, Refusal> {
-    Ok(calls::encrypt(keys, wanted, form.flag(), plaintext)?.0)
+) -> Result<String, Refusal> {
+    Ok(text(
+        calls::encrypt(keys, wanted, form.flag(), plaintext)?.0,
+    ))
 }
 
 /// Encrypts the plaintext to each of the keys, and returns the object without its ciphertext, and the ciphertext.
@@ -343,7 +361,7 @@ pub fn encrypt(
 /// let key = generate(br#"{"alg":"A256GCM"}"#)?;
 /// let (object, ciphertext) = encrypt_detached(&key, b"{}", Form::Json, b"secret")?;
 /// assert_eq!(ciphertext.len(), 6);
-/// assert_eq!(decrypt(&key, &object, Some(&ciphertext))?, b"secret");
+/// assert_eq!(decrypt(&key, object.as_bytes(), Some(&ciphertext))?, b"secret");
 /// # Ok::<(), Refusal>(())
 /// ```
 pub fn encrypt_detached(
@@ -351,8 +369,10 @@ pub fn encrypt_detached(
     wanted: &[u8],
     form: Form,
     plaintext: &[u8],
-) -> Result<(Vec<u8>, Vec<u8>), Refusal> {
-    calls::encrypt(keys, wanted, form.flag() | calls::DETACH, plaintext)
+) -> Result<(String, Vec<u8>), Refusal> {
+    let (object, ciphertext) =
+        calls::encrypt(keys, wanted, form.flag() | calls::DETACH, plaintext)?;
+    Ok((text(object), ciphertext))
 }
 
 /// Decrypts the object with one of the keys, and returns the plaintext (RFC 7516 section 5.2). It tries no password:
@@ -404,9 +424,9 @@ pub fn decrypt(keys: &[u8], object: &[u8], ciphertext: Option<&[u8]>) -> Result<
 ///
 /// let password = br#"{"kty":"oct","k":"Y29ycmVjdCBob3JzZQ","alg":"PBES2-HS256+A128KW"}"#;
 /// let object = encrypt(password, br#"{"protected":{"p2c":1000}}"#, Form::Compact, b"secret")?;
-/// assert_eq!(decrypt_with_iterations(password, &object, None, 1000)?, b"secret");
-/// assert_eq!(decrypt_with_iterations(password, &object, None, 999), Err(Refusal::Limit));
-/// assert_eq!(decrypt(password, &object, None), Err(Refusal::Limit));
+/// assert_eq!(decrypt_with_iterations(password, object.as_bytes(), None, 1000)?, b"secret");
+/// assert_eq!(decrypt_with_iterations(password, object.as_bytes(), None, 999), Err(Refusal::Limit));
+/// assert_eq!(decrypt(password, object.as_bytes(), None), Err(Refusal::Limit));
 /// # Ok::<(), Refusal>(())
 /// ```
 pub fn decrypt_with_iterations(
@@ -430,15 +450,11 @@ pub fn decrypt_with_iterations(
 /// use lakhdzeva::{format_signed, Form, Refusal};
 ///
 /// let object = format_signed(b"eyJhbGciOiJIUzI1NiJ9.aGk.AAAA", None, Form::Json)?;
-/// assert_eq!(object, br#"{"payload":"aGk","protected":"eyJhbGciOiJIUzI1NiJ9","signature":"AAAA"}"#);
+/// assert_eq!(object, r#"{"payload":"aGk","protected":"eyJhbGciOiJIUzI1NiJ9","signature":"AAAA"}"#);
 /// # Ok::<(), Refusal>(())
 /// ```
-pub fn format_signed(
-    object: &[u8],
-    payload: Option<&[u8]>,
-    form: Form,
-) -> Result<Vec<u8>, Refusal> {
-    Ok(calls::format_signed(object, payload, form.flag())?.0)
+pub fn format_signed(object: &[u8], payload: Option<&[u8]>, form: Form) -> Result<String, Refusal> {
+    Ok(text(calls::format_signed(object, payload, form.flag())?.0))
 }
 
 /// Writes a signed object in this form without its payload, and returns it and the payload (RFC 7515 appendix F). It verifies nothing.
@@ -449,7 +465,7 @@ pub fn format_signed(
 /// use lakhdzeva::{format_signed_detached, Form, Refusal};
 ///
 /// let (object, payload) = format_signed_detached(b"eyJhbGciOiJIUzI1NiJ9.aGk.AAAA", None, Form::Compact)?;
-/// assert_eq!(object, b"eyJhbGciOiJIUzI1NiJ9..AAAA");
+/// assert_eq!(object, "eyJhbGciOiJIUzI1NiJ9..AAAA");
 /// assert_eq!(payload, b"hi");
 /// # Ok::<(), Refusal>(())
 /// ```
@@ -457,8 +473,9 @@ pub fn format_signed_detached(
     object: &[u8],
     payload: Option<&[u8]>,
     form: Form,
-) -> Result<(Vec<u8>, Vec<u8>), Refusal> {
-    calls::format_signed(object, payload, form.flag() | calls::DETACH)
+) -> Result<(String, Vec<u8>), Refusal> {
+    let (object, payload) = calls::format_signed(object, payload, form.flag() | calls::DETACH)?;
+    Ok((text(object), payload))
 }
 
 /// Writes an encrypted object in this form (RFC 7516 section 7). It sees no key and decrypts nothing. Unknown members are left out.
@@ -472,16 +489,18 @@ pub fn format_signed_detached(
 ///
 /// let key = generate(br#"{"alg":"A256GCM"}"#)?;
 /// let compact = encrypt(&key, b"{}", Form::Compact, b"secret")?;
-/// let json = format_encrypted(&compact, None, Form::Json)?;
-/// assert_eq!(format_encrypted(&json, None, Form::Compact)?, compact);
+/// let json = format_encrypted(compact.as_bytes(), None, Form::Json)?;
+/// assert_eq!(format_encrypted(json.as_bytes(), None, Form::Compact)?, compact);
 /// # Ok::<(), Refusal>(())
 /// ```
 pub fn format_encrypted(
     object: &[u8],
     ciphertext: Option<&[u8]>,
     form: Form,
-) -> Result<Vec<u8>, Refusal> {
-    Ok(calls::format_encrypted(object, ciphertext, form.flag())?.0)
+) -> Result<String, Refusal> {
+    Ok(text(
+        calls::format_encrypted(object, ciphertext, form.flag())?.0,
+    ))
 }
 
 /// Writes an encrypted object in this form without its ciphertext, and returns it and the ciphertext. It decrypts nothing.
@@ -493,14 +512,16 @@ pub fn format_encrypted(
 ///
 /// let key = generate(br#"{"alg":"A256GCM"}"#)?;
 /// let whole = encrypt(&key, b"{}", Form::Compact, b"secret")?;
-/// let (object, ciphertext) = format_encrypted_detached(&whole, None, Form::Json)?;
-/// assert_eq!(decrypt(&key, &object, Some(&ciphertext))?, b"secret");
+/// let (object, ciphertext) = format_encrypted_detached(whole.as_bytes(), None, Form::Json)?;
+/// assert_eq!(decrypt(&key, object.as_bytes(), Some(&ciphertext))?, b"secret");
 /// # Ok::<(), Refusal>(())
 /// ```
 pub fn format_encrypted_detached(
     object: &[u8],
     ciphertext: Option<&[u8]>,
     form: Form,
-) -> Result<(Vec<u8>, Vec<u8>), Refusal> {
-    calls::format_encrypted(object, ciphertext, form.flag() | calls::DETACH)
+) -> Result<(String, Vec<u8>), Refusal> {
+    let (object, ciphertext) =
+        calls::format_encrypted(object, ciphertext, form.flag() | calls::DETACH)?;
+    Ok((text(object), ciphertext))
 }

@@ -5,6 +5,7 @@ use std::fmt;
 ///
 /// If several causes apply, the first in the order of the library's specification is reported.
 #[derive(Clone, Copy, Debug, PartialEq, Eq, Hash)]
+#[non_exhaustive]
 pub enum Refusal {
     /// The arguments are not allowed. No function of this crate returns it.
     Usage,
@@ -90,6 +91,15 @@ impl Refusal {
             Refusal::NotOpened => 17,
             Refusal::Unknown(number) => number,
         }
+    }
+
+    /// Whether it is about this machine or the keys, and not about a token: a service answers 500, and not 401.
+    ///
+    /// It is right for each refusal of [`Keys`](crate::Keys), which were judged before. Of a function that reads a text of keys, other refusals
+    /// can be about the keys too.
+    #[must_use]
+    pub const fn is_fault(self) -> bool {
+        matches!(self.number(), 0..=5 | 9 | 13 | 18..)
     }
 
     /// The name of the refusal, such as `NotOpened`.

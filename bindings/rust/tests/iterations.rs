@@ -34,7 +34,7 @@ fn each_recipient_counts_with_each_key_that_fits() {
     let keys = set_of(&[key_of('A', 2), key_of('Q', 2)]);
     let object = encrypt(keys.as_bytes(), TEMPLATE, Form::Json, b"secret").unwrap();
     for (keys, needed) in [(key_of('A', 2), 2000), (keys, 4000)] {
-        let with = |most| decrypt_with_iterations(keys.as_bytes(), &object, None, most);
+        let with = |most| decrypt_with_iterations(keys.as_bytes(), object.as_bytes(), None, most);
         assert_eq!(with(needed), Ok(b"secret".to_vec()));
         assert_eq!(with(u64::MAX), Ok(b"secret".to_vec()));
         for fewer in [0, 1, needed - 1] {
@@ -48,7 +48,8 @@ fn a_detached_ciphertext_is_no_way_around() {
     let key = key_of('A', 2);
     let (object, ciphertext) =
         encrypt_detached(key.as_bytes(), TEMPLATE, Form::Json, b"secret").unwrap();
-    let with = |most| decrypt_with_iterations(key.as_bytes(), &object, Some(&ciphertext), most);
+    let with =
+        |most| decrypt_with_iterations(key.as_bytes(), object.as_bytes(), Some(&ciphertext), most);
     assert_eq!(with(999), Err(Refusal::Limit));
     assert_eq!(with(1000), Ok(b"secret".to_vec()));
 }

@@ -65,7 +65,7 @@ fn signed_objects() {
                     let payload = vec![7; content];
                     let object =
                         sign(keys.as_bytes(), template.as_bytes(), Form::Json, &payload).unwrap();
-                    verify(keys.as_bytes(), &object, Signers::All).unwrap();
+                    verify(keys.as_bytes(), object.as_bytes(), Signers::All).unwrap();
                     if count > 1 || template.contains("header") {
                         continue;
                     }
@@ -143,11 +143,11 @@ fn encrypted_in_its_rooms(keys: &str, template: &str, count: usize) {
                 &plaintext,
             )
             .unwrap();
-            decrypt_with_iterations(keys.as_bytes(), &object, None, 1000).unwrap();
+            decrypt_with_iterations(keys.as_bytes(), object.as_bytes(), None, 1000).unwrap();
         }
         let (object, ciphertext) =
             encrypt_detached(keys.as_bytes(), template.as_bytes(), Form::Json, &plaintext).unwrap();
-        format_encrypted(&object, Some(&ciphertext), Form::Json).unwrap();
+        format_encrypted(object.as_bytes(), Some(&ciphertext), Form::Json).unwrap();
     }
 }
 
@@ -158,14 +158,14 @@ fn objects_in_other_forms() {
         let payload = vec![7; content];
         for from in FORMS {
             let object = sign(key.as_bytes(), b"{}", from, &payload).unwrap();
-            let (apart, detached) = format_signed_detached(&object, None, from).unwrap();
+            let (apart, detached) = format_signed_detached(object.as_bytes(), None, from).unwrap();
             assert_eq!(detached, payload);
             for to in FORMS {
-                let text = format_signed(&object, None, to).unwrap();
-                let whole = format_signed(&apart, Some(&payload), to).unwrap();
+                let text = format_signed(object.as_bytes(), None, to).unwrap();
+                let whole = format_signed(apart.as_bytes(), Some(&payload), to).unwrap();
                 assert_eq!(whole, text);
-                format_signed_detached(&object, None, to).unwrap();
-                format_signed_detached(&apart, Some(&payload), to).unwrap();
+                format_signed_detached(object.as_bytes(), None, to).unwrap();
+                format_signed_detached(apart.as_bytes(), Some(&payload), to).unwrap();
             }
         }
     }

@@ -24,7 +24,7 @@ fn each_key_of_a_set_signs() {
     let object = sign(set.as_bytes(), b"{}", Form::Json, b"hello").unwrap();
     for key in [one(), other(), set] {
         for signers in [Signers::One, Signers::All] {
-            let payload = verify(key.as_bytes(), &object, signers).unwrap();
+            let payload = verify(key.as_bytes(), object.as_bytes(), signers).unwrap();
             assert_eq!(payload, b"hello");
         }
     }
@@ -35,20 +35,20 @@ fn all_keys_must_have_signed_if_that_is_asked() {
     let object = sign(one().as_bytes(), b"{}", Form::Json, b"hello").unwrap();
     let set = set_of(&[other(), one()]);
     assert_eq!(
-        verify(set.as_bytes(), &object, Signers::One).unwrap(),
+        verify(set.as_bytes(), object.as_bytes(), Signers::One).unwrap(),
         b"hello"
     );
     assert_eq!(
-        verify(set.as_bytes(), &object, Signers::All),
+        verify(set.as_bytes(), object.as_bytes(), Signers::All),
         Err(Refusal::NotOpened)
     );
     let object = sign_detached(one().as_bytes(), b"{}", Form::Json, b"hello").unwrap();
     assert_eq!(
-        verify_detached(set.as_bytes(), &object, Signers::One, b"hello"),
+        verify_detached(set.as_bytes(), object.as_bytes(), Signers::One, b"hello"),
         Ok(())
     );
     assert_eq!(
-        verify_detached(set.as_bytes(), &object, Signers::All, b"hello"),
+        verify_detached(set.as_bytes(), object.as_bytes(), Signers::All, b"hello"),
         Err(Refusal::NotOpened)
     );
 }
@@ -58,7 +58,7 @@ fn an_invalid_key_is_ignored_to_verify_and_refused_to_sign() {
     let object = sign(one().as_bytes(), b"{}", Form::Compact, b"hello").unwrap();
     let set = set_of(&[rsa(), one()]);
     assert_eq!(
-        verify(set.as_bytes(), &object, Signers::All).unwrap(),
+        verify(set.as_bytes(), object.as_bytes(), Signers::All).unwrap(),
         b"hello"
     );
     assert_eq!(
@@ -78,11 +78,14 @@ fn each_key_of_a_set_decrypts() {
     let keys = [key_of('A', 22), key_of('A', 43), key_of('A', 32)];
     let object = encrypt(set_of(&keys).as_bytes(), b"{}", Form::Json, b"secret").unwrap();
     for key in &keys {
-        assert_eq!(decrypt(key.as_bytes(), &object, None).unwrap(), b"secret");
+        assert_eq!(
+            decrypt(key.as_bytes(), object.as_bytes(), None).unwrap(),
+            b"secret"
+        );
     }
     let stranger = r#"{"k":"AAAAAAAAAAAAAAAAAAAAAQ","kty":"oct"}"#;
     assert_eq!(
-        decrypt(stranger.as_bytes(), &object, None),
+        decrypt(stranger.as_bytes(), object.as_bytes(), None),
         Err(Refusal::NotOpened)
     );
 }

@@ -22,7 +22,7 @@ fn key_with(k: &str) -> String {
 fn both_answers(keys: &str, signers: usize, object: &[u8]) -> Result<(), Refusal> {
     let answer = verify_all(keys.as_bytes(), signers, object);
     let (apart, payload) = format_signed_detached(object, None, Form::Json).unwrap();
-    let detached = verify_all_detached(keys.as_bytes(), signers, &apart, &payload);
+    let detached = verify_all_detached(keys.as_bytes(), signers, apart.as_bytes(), &payload);
     assert_eq!(answer.clone().map(|_| ()), detached);
     assert_eq!(payload, b"hello");
     answer.map(|verified| assert_eq!(verified, payload))

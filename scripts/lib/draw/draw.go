@@ -7,7 +7,7 @@ import (
 	"runtime"
 	"sync"
 
-	"lakhdzeva"
+	"lakhdzeva.example/lakhdzeva/v3"
 )
 
 func text(answer []byte, err error) string {

@@ -2,12 +2,12 @@
 
 use lakhdzeva::{encrypt, generate, Form, Refusal};
 
-fn text(answer: Result<Vec<u8>, Refusal>) -> String {
-    answer.map_or_else(|refusal| refusal.to_string(), |octets| String::from_utf8(octets).unwrap())
+fn text(answer: Result<String, Refusal>) -> String {
+    answer.unwrap_or_else(|refusal| refusal.to_string())
 }
 
 fn draw(keys: &str, template: &str) {
-    let key = text(generate(br#"{"bytes":100}"#));
+    let key = text(generate(br#"{"bytes":100}"#).map(|octets| String::from_utf8(octets).unwrap()));
     let object = text(encrypt(keys.as_bytes(), template.as_bytes(), Form::Json, b"hello"));
     println!("{key}\t{object}");
 }

@@ -2,14 +2,17 @@
 
     import lakhdzeva
 
-    key = lakhdzeva.generate({"alg": "HS256"})
-    token = lakhdzeva.sign(key, b"replicas: 3")
-    assert lakhdzeva.verify(key, token) == b"replicas: 3"
+    keys = lakhdzeva.Keys.from_file("service.jwk")
+    token = lakhdzeva.sign(keys, b"replicas: 3")
+    try:
+        payload = lakhdzeva.verify(keys, token)
+    except lakhdzeva.BadToken as refused:
+        raise SystemExit(f"not accepted: {refused}")  # such as 17 NotOpened
 
 The shared library ``liblakhdzeva.so.3`` does the work. This module passes octets to it and decides nothing.
 
-- ``keys`` is one key, or a set of keys. A key is a dict. A set is a list of keys, or a dict with ``keys``. Keys can also be a JSON text
-  (``str`` or ``bytes``), which is passed as it is.
+- ``keys`` is ``Keys``, which a service makes once, when it starts. It can also be one key, or a set of keys, which each call reads again: a
+  dict, a list of dicts, or a JSON text (``str`` or ``bytes``), which is passed as it is.
 - ``wanted`` is the template that says what is wanted: a dict or a JSON text. ``None`` means ``{}``, which lets the keys decide.
 - A token is a ``str``, ``bytes``, or the dict of its JSON form. A function that makes a token returns a ``str``.
 - A payload, a plaintext and a ciphertext are octets: ``bytes``, ``bytearray`` or ``memoryview``.
@@ -17,7 +20,8 @@ The shared library ``liblakhdzeva.so.3`` does the work. This module passes octet
 
 A value of a class that is derived from one of these types counts as its built-in content: its own methods are not called.
 
-A refusal of the library is an exception, ``Refused``. An argument of another type is a ``TypeError``. A dict that cannot be written as JSON
+A refusal of the library is an exception, ``Refused``. If it is a ``BadToken``, the sender of the token is at fault. If it is a ``Fault``, the
+keys, a template or this machine are. The module ``refusals`` has a class for each refusal. An argument of another type is a ``TypeError``. A dict that cannot be written as JSON
 raises a ``TypeError``, a ``ValueError`` (such as one with a NaN) or a ``RecursionError`` (such as one that holds itself).
 
 What to mind with every function:
@@ -37,40 +41,46 @@ which ``threading.stack_size`` can set too low. Nothing ends a call before it re
 
 from __future__ import annotations
 
-import ctypes
 import json
-import os
-import sys
-from ctypes import byref, c_char, c_char_p, c_size_t, c_uint, c_uint32, c_uint64, c_void_p
 from pathlib import Path
-from typing import Any, Dict, List, Literal, Optional, Tuple, Union, overload
+from typing import Any, Dict, List, NamedTuple, Optional, Tuple
+
+from . import _arguments, _library, refusals
+from ._arguments import Json, Octets
+from ._keys import Hash, Keys, KeysLike, blamed, text_of, thumbprints_of
+from .refusals import BadToken, Fault, Refused, refused
 
 __all__ = [
+    "BadToken",
+    "Fault",
+    "Keys",
     "Refused",
     "decrypt",
     "encrypt",
+    "encrypt_detached",
     "format_encrypted",
+    "format_encrypted_detached",
     "format_signed",
+    "format_signed_detached",
     "generate",
+    "library",
+    "refusals",
     "sign",
+    "sign_detached",
     "thumbprint",
     "thumbprints",
     "verify",
     "verify_all",
+    "verify_all_detached",
+    "verify_detached",
 ]
-
-Json = Union[Dict[str, Any], str, bytes]
-Keys = Union[Dict[str, Any], List[Dict[str, Any]], str, bytes]
-Octets = Union[bytes, bytearray, memoryview]
-Hash = Literal["S224", "S256", "S384", "S512"]
-
-_HERE = Path(__file__).resolve().parent
 
 
 def _read_version() -> str:
     # An installed package has the file next to it. In the sources it is next to pyproject.toml, or at the top of the repository.
-    sources = _HERE.parent.parent
-    for folder in (_HERE, sources, sources.parent.parent):
+    here = Path(__file__).resolve().parent
+    sources = here.parent.parent
+    for folder in (here, sources, sources.parent.parent):
         if (folder / "VERSION").is_file():
             return (folder / "VERSION").read_text("utf-8").split()[0]
     return "unknown"
@@ -78,231 +88,25 @@ def _read_version() -> str:
 
 __version__ = _read_version()
 
-# ---- Refusals
+
+class Library(NamedTuple):
+    """The shared library that is loaded."""
+
+    file: str
+    version: str
 
 
-class Refused(Exception):
-    """The library refused a call. The text is the number and the name, such as ``17 NotOpened``. The numbers stay the same.
-
-    - 1 ``Usage``: the hash of a thumbprint is not supported.
-    - 2 ``Read``: never.
-    - 3 ``Write``: never, since each place is large enough.
-    - 4 ``Memory``: an allocation of the library failed.
-    - 5 ``Random``: the system gave no random octets.
-    - 6 ``Base64``: a text that must be base64url is not.
-    - 7 ``Json``: a text that must be JSON is not.
-    - 8 ``Number``: a JSON number has a fraction, an exponent or more than 64 bits, or is -0.
-    - 9 ``Key``: not a good octet key, no such key in the set, or a bad template for a key.
-    - 10 ``Form``: members are missing, of the wrong type or not allowed together, or the number of parts is wrong.
-    - 11 ``Header``: a header member is missing or wrong.
-    - 12 ``Unsupported``: an algorithm, ``crit`` or ``zip`` is not supported.
-    - 13 ``NoAlgorithm``: nothing names or implies the algorithm or the size.
-    - 14 ``KeyDoesNotFit``: the length, ``alg``, ``use`` or ``key_ops`` of the key does not fit.
-    - 15 ``Limit``: a limit is exceeded: keys, recipients, iterations, nesting.
-    - 16 ``NotCompact``: compact form cannot hold the object.
-    - 17 ``NotOpened``: no key verifies the object, or decrypts it.
-    """
-
-    number: int
-    name: str
-
-    def __init__(self, number: int) -> None:
-        super().__init__(number)
-        self.number = number
-        self.name = _name(number).decode()
-
-    def __str__(self) -> str:
-        return f"{self.number} {self.name}"
+def library() -> Library:
+    """Returns the name of the file of the shared library that was loaded, and its version."""
+    return Library(_library.file_name(), _library.version().decode())
 
 
-# ---- The shared library
-
-_SONAME = "liblakhdzeva.so.3"
-
-
-def _load() -> ctypes.CDLL:
-    beside = _HERE / _SONAME
-    # As with Python's own variables, `python3 -E` and `python3 -I` do not read it.
-    named = None if sys.flags.ignore_environment else os.environ.get("LAKHDZEVA_LIBRARY")
-    name = named or (str(beside) if beside.is_file() else _SONAME)
-    try:
-        return ctypes.CDLL(name)
-    except OSError as error:
-        raise ImportError(
-            f"the shared library of lakhdzeva cannot be loaded: {error}. Install {_SONAME} where the system looks for libraries, "
-            f"copy it into the folder {_HERE}, or set LAKHDZEVA_LIBRARY to the name of its file."
-        ) from error
-
-
-_LIBRARY = _load()
-
-
-# A text is a pointer and a length. A place for an answer is a pointer, the octets that fit there, and a pointer to a length.
-_TEXT = (c_char_p, c_size_t)
-_PLACE = (c_void_p, c_size_t, ctypes.POINTER(c_size_t))
-
-
-def _function(name: str, *arguments: Any, result: Any = c_uint32) -> Any:
-    try:
-        function = getattr(_LIBRARY, "lakhdzeva_" + name)
-    except AttributeError as error:
-        raise ImportError(f"{_LIBRARY._name} is not version 3 of the shared library of lakhdzeva: {error}") from error
-    function.argtypes = arguments
-    function.restype = result
-    return function
-
-
-def _room(name: str, lengths: int) -> Any:
-    """The function for the length that always suffices for an answer, by so many lengths."""
-    return _function(name + "_room", *[c_size_t] * lengths, result=c_size_t)
-
-
-_name = _function("name", c_uint32, result=c_char_p)
-_generate, _generate_room = _function("generate", *_TEXT, *_PLACE), _room("generate", 1)
-_thumbprints, _thumbprints_room = _function("thumbprints", *_TEXT, c_uint, *_PLACE), _room("thumbprints", 1)
-_sign, _sign_room = _function("sign", *_TEXT, *_TEXT, c_uint, *_TEXT, *_PLACE), _room("sign", 3)
-_verify, _verify_room = _function("verify", *_TEXT, *_TEXT, c_uint, *_PLACE), _room("verify", 1)
-_verify_detached = _function("verify_detached", *_TEXT, *_TEXT, c_uint, *_TEXT)
-_verify_all = _function("verify_all", *_TEXT, c_size_t, *_TEXT, *_PLACE)
-_verify_all_detached = _function("verify_all_detached", *_TEXT, c_size_t, *_TEXT, *_TEXT)
-_encrypt, _encrypt_room = _function("encrypt", *_TEXT, *_TEXT, c_uint, *_TEXT, *_PLACE, *_PLACE), _room("encrypt", 3)
-_decrypt, _decrypt_room = _function("decrypt", *_TEXT, *_TEXT, *_TEXT, c_uint64, *_PLACE), _room("decrypt", 2)
-_format_signed = _function("format_signed", *_TEXT, *_TEXT, c_uint, *_PLACE, *_PLACE)
-_format_encrypted = _function("format_encrypted", *_TEXT, *_TEXT, c_uint, *_PLACE, *_PLACE)
-_format_room, _content_room, _ciphertext_room = _room("format", 2), _room("content", 2), _room("ciphertext", 1)
-
-# enum lakhdzeva_flags in lakhdzeva.h.
-_COMPACT, _DETACH, _ALL = 1, 2, 4
-
-# An array of no octets leads to the first octet of any place. One type for all lengths saves the time to make a type for each length.
-_Start = c_char * 0
-
-
-class _Place:
-    """A place for an answer, and the length of the answer."""
-
-    __slots__ = ("octets", "length")
-
-    def __init__(self, room: int) -> None:
-        self.octets = bytearray(room)
-        self.length = c_size_t()
-
-    def arguments(self) -> Tuple[Any, int, Any]:
-        return _Start.from_buffer(self.octets), len(self.octets), byref(self.length)
-
-    def content(self) -> bytes:
-        return bytes(memoryview(self.octets)[: self.length.value])
-
-    def text(self) -> str:
-        return str(memoryview(self.octets)[: self.length.value], "utf-8")
-
-
-def _written(function: Any, arguments: Tuple[Any, ...], *rooms: int) -> List[_Place]:
-    """Calls a function that writes as many answers as there are rooms."""
-    places = [_Place(room) for room in rooms]
-    status = function(*arguments, *(it for place in places for it in place.arguments()))
+def _made(function: Any, arguments: Tuple[Any, ...], *rooms: int) -> List[_library.Place]:
+    """Calls a function that makes something. Whatever it refuses is the caller's."""
+    status, places = _library.written(function, arguments, *rooms)
     if status:
-        raise Refused(status)
+        raise refused(status, Fault)
     return places
-
-
-# ---- Arguments
-
-# A class that is derived from a built-in one can have a `__len__`, an `encode` or an `items` of its own, which need not fit what it holds.
-# So a value of such a class is copied by the methods of the built-in class, which see what it holds. `type` and `issubclass` ask no
-# `__class__`.
-
-# Floats are written, and the library refuses them.
-_dump = json.JSONEncoder(ensure_ascii=False, allow_nan=False, separators=(",", ":")).encode
-_WHOLE = slice(None)
-# The greatest number that the library takes. A greater one means the same.
-_MOST = 2**64 - 1
-
-
-def _encoded(text: str) -> bytes:
-    # A lone surrogate becomes octets that are not UTF-8, which the library refuses.
-    return str.encode(text, "utf-8", "surrogatepass")
-
-
-def _plain(value: Any) -> Any:
-    """The value of JSON, made of built-in classes alone."""
-    kind = type(value)
-    if issubclass(kind, str):
-        return str.__str__(value)
-    if issubclass(kind, dict):
-        return {_plain(name): _plain(member) for name, member in dict.items(value)}
-    if issubclass(kind, list):
-        return [_plain(member) for member in list.__iter__(value)]
-    if issubclass(kind, tuple):
-        return [_plain(member) for member in tuple.__iter__(value)]
-    if issubclass(kind, int) and kind is not bool:
-        return int.__index__(value)
-    if issubclass(kind, float):
-        return float.__float__(value)
-    return value
-
-
-def _json(name: str, value: Any) -> bytes:
-    kind = type(value)
-    if issubclass(kind, dict):
-        return _encoded(_dump(_plain(value)))
-    if issubclass(kind, str):
-        return _encoded(value)
-    if issubclass(kind, bytes):
-        return bytes.__getitem__(value, _WHOLE)
-    raise TypeError(f"{name} must be a dict, str or bytes, not {kind.__name__}")
-
-
-def _keys(value: Any) -> bytes:
-    kind = type(value)
-    if issubclass(kind, list):
-        return _encoded(_dump({"keys": _plain(value)}))
-    if issubclass(kind, (dict, str, bytes)):
-        return _json("keys", value)
-    raise TypeError(f"keys must be a dict, a list of dicts, str or bytes, not {kind.__name__}")
-
-
-def _wanted(value: Optional[Json]) -> bytes:
-    return b"{}" if value is None else _json("wanted", value)
-
-
-def _octets(name: str, value: Any) -> bytes:
-    kind = type(value)
-    if issubclass(kind, bytes):
-        return bytes.__getitem__(value, _WHOLE)
-    if kind is bytearray or kind is memoryview:
-        return bytes(value)  # A copy, because another thread can change the value during the call.
-    if issubclass(kind, bytearray):
-        return bytes(bytearray.__getitem__(value, _WHOLE))
-    if issubclass(kind, str):
-        raise TypeError(f"{name} must be octets, not str: encode it, for example with {name}.encode()")
-    raise TypeError(f"{name} must be bytes, bytearray or memoryview, not {kind.__name__}")
-
-
-def _flag(name: str, value: Any) -> bool:
-    if value is True or value is False:
-        return value
-    raise TypeError(f"{name} must be True or False, not of type {type(value).__name__}")
-
-
-def _form(compact: Any, detach: Any) -> int:
-    return _flag("compact", compact) * _COMPACT | _flag("detach", detach) * _DETACH
-
-
-def _content(name: str, value: Optional[Octets]) -> Tuple[Optional[bytes], int]:
-    """A content that is handed in, and its length. If it is in the token, there is none."""
-    octets = None if value is None else _octets(name, value)
-    return octets, len(octets or b"")
-
-
-def _number(name: str, value: Any) -> int:
-    kind = type(value)
-    if not issubclass(kind, int) or kind is bool:
-        raise TypeError(f"{name} must be an int, not {kind.__name__}")
-    number = int.__index__(value)
-    if number < 0:
-        raise ValueError(f"{name} must not be negative")
-    return min(number, _MOST)
 
 
 # ---- Keys
@@ -316,33 +120,29 @@ def generate(wanted: Optional[Json] = None) -> Dict[str, Any]:
 
     Refusals: Json, Number and Key for a bad template, Limit, Unsupported, NoAlgorithm, KeyDoesNotFit, Random, Memory.
     """
-    text = _wanted(wanted)
-    (place,) = _written(_generate, (text, len(text)), _generate_room(len(text)))
+    text = _arguments.template(wanted)
+    (place,) = _made(_library.generate, (text, len(text)), _library.generate_room(len(text)))
     key: Dict[str, Any] = json.loads(place.text())
     return key
 
 
-def thumbprints(keys: Keys, hash: Hash = "S256") -> List[str]:
-    """Returns the thumbprints (RFC 7638) of the good keys of a set, in order. ``hash`` is ``S224``, ``S256``, ``S384`` or ``S512``.
+def thumbprints(keys: KeysLike, hash: Hash = "S256") -> List[str]:
+    """Returns the thumbprints (RFC 7638) of the good keys of a set, in order. ``hash`` is ``S224``, ``S256``, ``S384`` or ``S512``, or the name
+    that hashlib has for it, such as ``sha256``.
 
     The thumbprint of a password is not safe to publish: it lets anyone test guesses.
 
     Refusals: Usage for another hash, Json, Number, Key, Limit, Memory.
     """
-    if not issubclass(type(hash), str):
-        raise TypeError(f"hash must be a str, not {type(hash).__name__}")
-    text = _keys(keys)
-    bits = {"S224": 224, "S256": 256, "S384": 384, "S512": 512}.get(str.__str__(hash), 0)
-    (lines,) = _written(_thumbprints, (text, len(text), bits), _thumbprints_room(len(text)))
-    return lines.text().split("\n")
+    return thumbprints_of(keys, hash)
 
 
-def thumbprint(key: Json, hash: Hash = "S256") -> str:
+def thumbprint(key: KeysLike, hash: Hash = "S256") -> str:
     """Returns the thumbprint (RFC 7638) of one key. A set with more than one good key is a ValueError.
 
     The rest is as for ``thumbprints``.
     """
-    lines = thumbprints(_json("key", key), hash)
+    lines = thumbprints_of(key, hash)
     if len(lines) > 1:
         raise ValueError("this is a set with more than one key: call thumbprints")
     return lines[0]
@@ -351,38 +151,38 @@ def thumbprint(key: Json, hash: Hash = "S256") -> str:
 # ---- Signed tokens
 
 
-def _verified(function: Any, detached: Any, arguments: Tuple[Any, ...], room: int, payload: Optional[Octets]) -> bytes:
-    """Calls the function, or with a payload that is handed in the one for it, and returns the payload that was verified."""
-    if payload is None:
-        return _written(function, arguments, room)[0].content()
-    octets = _octets("payload", payload)
-    _written(detached, (*arguments, octets, len(octets)))
-    return octets
+def _signed(keys: KeysLike, payload: Octets, wanted: Optional[Json], flags: int) -> str:
+    text, template, octets = text_of(keys), _arguments.template(wanted), _arguments.octets("payload", payload)
+    room = _library.sign_room(len(text), len(template), 0 if flags & _library.DETACH else len(octets))
+    return _made(_library.sign, (text, len(text), template, len(template), flags, octets, len(octets)), room)[0].text()
 
 
-def sign(keys: Keys, payload: Octets, wanted: Optional[Json] = None, *, compact: bool = True, detach: bool = False) -> str:
+def sign(keys: KeysLike, payload: Octets, wanted: Optional[Json] = None, *, compact: bool = True) -> str:
     """Signs the payload with each of the keys (RFC 7515, section 5.1) and returns the token.
 
     ``wanted`` has the headers, for example ``{"protected": {"alg": "HS256", "kid": "7"}}``. Without an algorithm, the key's ``alg`` or its
-    length decides. Compact form holds one signature. JSON form (``compact=False``) holds one for each key. With ``detach`` the token
-    does not contain the payload (appendix F).
+    length decides. Compact form holds one signature. JSON form (``compact=False``) holds one for each key.
 
     The payload is in the token as it is, and not secret. ``header`` in the template is a header that is not signed.
 
     Refusals: Json, Number, Key and Limit for bad keys; Json, Number, Form, Header and Unsupported for a bad template; NoAlgorithm,
     KeyDoesNotFit, Limit, NotCompact, Memory.
     """
-    text, template, octets = _keys(keys), _wanted(wanted), _octets("payload", payload)
-    arguments = (text, len(text), template, len(template), _form(compact, detach), octets, len(octets))
-    (token,) = _written(_sign, arguments, _sign_room(len(text), len(template), 0 if detach else len(octets)))
-    return token.text()
+    return _signed(keys, payload, wanted, _arguments.form(compact))
 
 
-def verify(keys: Keys, token: Json, *, all: bool = False, payload: Optional[Octets] = None) -> bytes:
+def sign_detached(keys: KeysLike, payload: Octets, wanted: Optional[Json] = None, *, compact: bool = True) -> str:
+    """Signs the payload with each of the keys and returns the token without the payload (RFC 7515, appendix F).
+
+    The rest is as for ``sign``.
+    """
+    return _signed(keys, payload, wanted, _arguments.form(compact) | _library.DETACH)
+
+
+def verify(keys: KeysLike, token: Json, *, all: bool = False) -> bytes:
     """Verifies a signed token (RFC 7515, section 5.2) and returns its payload.
 
-    One of the keys must have made one of the signatures. ``payload`` is the payload if the token does not contain it (appendix F), and is
-    then returned. The keys say whom you trust: never take them from the token.
+    One of the keys must have made one of the signatures. The keys say whom you trust: never take them from the token.
 
     - With ``all`` each good key must have made a signature. It passes over bad keys, and takes one signature for two keys that sign alike.
       So for a rule such as "Ann and Bob must both sign" call ``verify_all``.
@@ -397,12 +197,28 @@ def verify(keys: Keys, token: Json, *, all: bool = False, payload: Optional[Octe
     Refusals: Json, Number, Key and Limit for bad keys; Json, Number, Form, Limit, Base64, Header and Unsupported for a bad token;
     KeyDoesNotFit if no key may verify a signature; NotOpened if no signature is right; Memory.
     """
-    text, object_ = _keys(keys), _json("token", token)
-    arguments = (text, len(text), object_, len(object_), _flag("all", all) * _ALL)
-    return _verified(_verify, _verify_detached, arguments, _verify_room(len(object_)), payload)
+    text, octets = text_of(keys), _arguments.json_text("token", token)
+    arguments = (text, len(text), octets, len(octets), _arguments.flag("all", all) * _library.ALL)
+    status, (payload,) = _library.written(_library.verify, arguments, _library.verify_room(len(octets)))
+    if status:
+        raise blamed(status, keys, True)
+    return payload.content()
 
 
-def verify_all(keys: Keys, signers: int, token: Json, *, payload: Optional[Octets] = None) -> bytes:
+def verify_detached(keys: KeysLike, token: Json, payload: Octets, *, all: bool = False) -> None:
+    """Verifies a signed token with this payload, which it does not contain (RFC 7515, appendix F). A token that has a payload of its own is
+    refused with Form.
+
+    The rest is as for ``verify``.
+    """
+    text, octets, content = text_of(keys), _arguments.json_text("token", token), _arguments.octets("payload", payload)
+    flags = _arguments.flag("all", all) * _library.ALL
+    status = _library.verify_detached(text, len(text), octets, len(octets), flags, content, len(content))
+    if status:
+        raise blamed(status, keys, True)
+
+
+def verify_all(keys: KeysLike, signers: int, token: Json) -> bytes:
     """Verifies that each key of the set signed the token, and returns its payload. The set has exactly ``signers`` keys.
 
     It is for rules about people, such as "Ann and Bob must both sign". A bad key is refused as by ``sign``. Two keys that sign alike are
@@ -417,40 +233,46 @@ def verify_all(keys: Keys, signers: int, token: Json, *, payload: Optional[Octet
     Refusals: Json, Number, Key and Limit for bad keys; Key for another number of keys, and for two that sign alike; Json, Number, Form,
     Limit, Base64, Header and Unsupported for a bad token; NotOpened unless each key made a signature; Memory.
     """
-    text, number, object_ = _keys(keys), _number("signers", signers), _json("token", token)
-    arguments = (text, len(text), number, object_, len(object_))
-    return _verified(_verify_all, _verify_all_detached, arguments, _verify_room(len(object_)), payload)
+    text, number, octets = text_of(keys), _arguments.number("signers", signers), _arguments.json_text("token", token)
+    arguments = (text, len(text), number, octets, len(octets))
+    status, (payload,) = _library.written(_library.verify_all, arguments, _library.verify_room(len(octets)))
+    if status:
+        raise blamed(status, keys, True)
+    return payload.content()
+
+
+def verify_all_detached(keys: KeysLike, signers: int, token: Json, payload: Octets) -> None:
+    """Verifies that each key of the set signed the token with this payload, which it does not contain (RFC 7515, appendix F).
+
+    The rest is as for ``verify_all``.
+    """
+    text, number = text_of(keys), _arguments.number("signers", signers)
+    octets, content = _arguments.json_text("token", token), _arguments.octets("payload", payload)
+    status = _library.verify_all_detached(text, len(text), number, octets, len(octets), content, len(content))
+    if status:
+        raise blamed(status, keys, True)
 
 
 # ---- Encrypted tokens
 
 
-@overload
-def encrypt(
-    keys: Keys, plaintext: Octets, wanted: Optional[Json] = None, *, compact: bool = True, detach: Literal[False] = False
-) -> str: ...
+def _encrypted(keys: KeysLike, plaintext: Octets, wanted: Optional[Json], flags: int) -> Tuple[str, bytes]:
+    text, template, octets = text_of(keys), _arguments.template(wanted), _arguments.octets("plaintext", plaintext)
+    detached = flags & _library.DETACH
+    token, ciphertext = _made(
+        _library.encrypt,
+        (text, len(text), template, len(template), flags, octets, len(octets)),
+        _library.encrypt_room(len(text), len(template), 0 if detached else len(octets)),
+        _library.ciphertext_room(len(octets)) if detached else 0,
+    )
+    return token.text(), ciphertext.content()
 
 
-@overload
-def encrypt(
-    keys: Keys, plaintext: Octets, wanted: Optional[Json] = None, *, compact: bool = True, detach: Literal[True]
-) -> Tuple[str, bytes]: ...
-
-
-@overload
-def encrypt(
-    keys: Keys, plaintext: Octets, wanted: Optional[Json] = None, *, compact: bool = True, detach: bool
-) -> Union[str, Tuple[str, bytes]]: ...
-
-
-def encrypt(
-    keys: Keys, plaintext: Octets, wanted: Optional[Json] = None, *, compact: bool = True, detach: bool = False
-) -> Union[str, Tuple[str, bytes]]:
+def encrypt(keys: KeysLike, plaintext: Octets, wanted: Optional[Json] = None, *, compact: bool = True) -> str:
     """Encrypts the plaintext to each of the keys (RFC 7516, section 5.1) and returns the token.
 
     ``wanted`` has the headers, for example ``{"protected": {"alg": "A256KW", "enc": "A256GCM"}}``. Without algorithms, the key's ``alg``
-    or its length decides. Compact form holds one recipient. JSON form (``compact=False``) holds one for each key. With ``detach`` the
-    token does not contain the ciphertext, and the answer is the token and the ciphertext.
+    or its length decides. Compact form holds one recipient. JSON form (``compact=False``) holds one for each key.
 
     - The recipients share its random key, so each of them can put another plaintext into the token.
     - When a host leaves, make a new key for each recipient that stays.
@@ -462,17 +284,18 @@ def encrypt(
     Refusals: Json, Number, Key and Limit for bad keys; Json, Number, Form, Base64, Header and Unsupported for a bad template;
     NoAlgorithm, KeyDoesNotFit, Limit, NotCompact, Random, Memory.
     """
-    text, template, octets, flags = _keys(keys), _wanted(wanted), _octets("plaintext", plaintext), _form(compact, detach)
-    token, ciphertext = _written(
-        _encrypt,
-        (text, len(text), template, len(template), flags, octets, len(octets)),
-        _encrypt_room(len(text), len(template), 0 if detach else len(octets)),
-        _ciphertext_room(len(octets)) if detach else 0,
-    )
-    return (token.text(), ciphertext.content()) if detach else token.text()
+    return _encrypted(keys, plaintext, wanted, _arguments.form(compact))[0]
 
 
-def decrypt(keys: Keys, token: Json, *, ciphertext: Optional[Octets] = None, iterations: int = 0) -> bytes:
+def encrypt_detached(keys: KeysLike, plaintext: Octets, wanted: Optional[Json] = None, *, compact: bool = True) -> Tuple[str, bytes]:
+    """Encrypts the plaintext to each of the keys, and returns the token without its ciphertext, and the ciphertext.
+
+    The rest is as for ``encrypt``.
+    """
+    return _encrypted(keys, plaintext, wanted, _arguments.form(compact) | _library.DETACH)
+
+
+def decrypt(keys: KeysLike, token: Json, *, ciphertext: Optional[Octets] = None, iterations: int = 0) -> bytes:
     """Decrypts an encrypted token with one of the keys (RFC 7516, section 5.2) and returns the plaintext.
 
     ``ciphertext`` is the ciphertext if the token does not contain it. ``iterations`` is the most iterations of PBKDF2 that the call may make
@@ -493,83 +316,66 @@ def decrypt(keys: Keys, token: Json, *, ciphertext: Optional[Octets] = None, ite
     Refusals: Json, Number, Key and Limit for bad keys; Json, Number, Form, Limit, Base64, Header and Unsupported for a bad token;
     KeyDoesNotFit if no key may decrypt; Limit for too many iterations; NotOpened if no key decrypts; Memory.
     """
-    text, object_, most = _keys(keys), _json("token", token), _number("iterations", iterations)
-    content = _content("ciphertext", ciphertext)
-    (plaintext,) = _written(_decrypt, (text, len(text), object_, len(object_), *content, most), _decrypt_room(len(object_), content[1]))
+    text, octets, most = text_of(keys), _arguments.json_text("token", token), _arguments.number("iterations", iterations)
+    given, length = _arguments.content("ciphertext", ciphertext)
+    arguments = (text, len(text), octets, len(octets), given, length, most)
+    status, (plaintext,) = _library.written(_library.decrypt, arguments, _library.decrypt_room(len(octets), length))
+    if status:
+        raise blamed(status, keys)
     return plaintext.content()
 
 
 # ---- Other forms
 
 
-def _formatted(
-    function: Any, name: str, token: Json, compact: bool, detach: bool, content: Optional[Octets]
-) -> Union[str, Tuple[str, bytes]]:
-    object_, flags = _json("token", token), _form(compact, detach)
-    octets, length = _content(name, content)
-    text, detached = _written(
+def _formatted(function: Any, token: Json, flags: int, name: str, content: Optional[Octets]) -> Tuple[str, bytes]:
+    octets = _arguments.json_text("token", token)
+    given, length = _arguments.content(name, content)
+    detached = flags & _library.DETACH
+    status, (text, apart) = _library.written(
         function,
-        (object_, len(object_), octets, length, flags),
-        _format_room(len(object_), 0 if detach else length),
-        _content_room(len(object_), length) if detach else 0,
+        (octets, len(octets), given, length, flags),
+        _library.format_room(len(octets), 0 if detached else length),
+        _library.content_room(len(octets), length) if detached else 0,
     )
-    return (text.text(), detached.content()) if detach else text.text()
+    if status:
+        raise blamed(status)
+    return text.text(), apart.content()
 
 
-@overload
-def format_signed(token: Json, *, compact: bool = False, detach: Literal[False] = False, payload: Optional[Octets] = None) -> str: ...
-
-
-@overload
-def format_signed(token: Json, *, compact: bool = False, detach: Literal[True], payload: Optional[Octets] = None) -> Tuple[str, bytes]: ...
-
-
-@overload
-def format_signed(
-    token: Json, *, compact: bool = False, detach: bool, payload: Optional[Octets] = None
-) -> Union[str, Tuple[str, bytes]]: ...
-
-
-def format_signed(
-    token: Json, *, compact: bool = False, detach: bool = False, payload: Optional[Octets] = None
-) -> Union[str, Tuple[str, bytes]]:
+def format_signed(token: Json, *, compact: bool = False, payload: Optional[Octets] = None) -> str:
     """Writes a signed token in JSON form, or in compact form (RFC 7515, section 7). It sees no key and verifies nothing. Unknown members are
     left out.
 
-    ``payload`` is the payload if the token does not contain it. With ``detach`` the answer is the token without its payload, and the payload.
+    ``payload`` is the payload if the token does not contain it.
 
     Refusals: Json, Number, Form, Limit, Base64, Header and Unsupported for a bad token; NotCompact, Memory.
     """
-    return _formatted(_format_signed, "payload", token, compact, detach, payload)
+    return _formatted(_library.format_signed, token, _arguments.form(compact), "payload", payload)[0]
 
 
-@overload
-def format_encrypted(
-    token: Json, *, compact: bool = False, detach: Literal[False] = False, ciphertext: Optional[Octets] = None
-) -> str: ...
+def format_signed_detached(token: Json, *, compact: bool = False, payload: Optional[Octets] = None) -> Tuple[str, bytes]:
+    """Writes a signed token without its payload, and returns it and the payload (RFC 7515, appendix F). It verifies nothing.
+
+    The rest is as for ``format_signed``.
+    """
+    return _formatted(_library.format_signed, token, _arguments.form(compact) | _library.DETACH, "payload", payload)
 
 
-@overload
-def format_encrypted(
-    token: Json, *, compact: bool = False, detach: Literal[True], ciphertext: Optional[Octets] = None
-) -> Tuple[str, bytes]: ...
-
-
-@overload
-def format_encrypted(
-    token: Json, *, compact: bool = False, detach: bool, ciphertext: Optional[Octets] = None
-) -> Union[str, Tuple[str, bytes]]: ...
-
-
-def format_encrypted(
-    token: Json, *, compact: bool = False, detach: bool = False, ciphertext: Optional[Octets] = None
-) -> Union[str, Tuple[str, bytes]]:
+def format_encrypted(token: Json, *, compact: bool = False, ciphertext: Optional[Octets] = None) -> str:
     """Writes an encrypted token in JSON form, or in compact form (RFC 7516, section 7). It sees no key and decrypts nothing. Unknown members
     are left out.
 
-    ``ciphertext`` is the ciphertext if the token does not contain it. With ``detach`` the answer is the token without its ciphertext, and
-    the ciphertext.
+    ``ciphertext`` is the ciphertext if the token does not contain it.
 
     Refusals: Json, Number, Form, Limit, Base64, Header and Unsupported for a bad token; NotCompact, Memory.
     """
-    return _formatted(_format_encrypted, "ciphertext", token, compact, detach, ciphertext)
+    return _formatted(_library.format_encrypted, token, _arguments.form(compact), "ciphertext", ciphertext)[0]
+
+
+def format_encrypted_detached(token: Json, *, compact: bool = False, ciphertext: Optional[Octets] = None) -> Tuple[str, bytes]:
+    """Writes an encrypted token without its ciphertext, and returns it and the ciphertext. It decrypts nothing.
+
+    The rest is as for ``format_encrypted``.
+    """
+    return _formatted(_library.format_encrypted, token, _arguments.form(compact) | _library.DETACH, "ciphertext", ciphertext)

@@ -1,0 +1,193 @@
+use crate::{Form, Hash, Refusal, Signers};
+use std::fmt;
+
+/// One key or a set of keys, which was judged when it was read.
+///
+/// So a refusal of its methods is about the token, or about what is signed or encrypted, unless it [is a fault](Refusal::is_fault) of the machine.
+/// Some things are not judged:
+///
+/// - Bad keys of a set are passed over. [`len`](Keys::len) is the number of the good ones: compare it with the number that you expect.
+/// - Whether a key may sign, encrypt or decrypt shows at the first call. [`can_verify`](Keys::can_verify) says whether one of them may verify
+///   signatures.
+///
+/// `Debug` shows no secret and no thumbprint. The memory is not wiped.
+///
+/// ```
+/// use lakhdzeva::{Keys, Refusal};
+///
+/// // A file that is cut ends the service when it starts, and not each request.
+/// assert_eq!(Keys::new(br#"{"kty":"oct","alg":"HS256","k":"AAECAwQFBgcI"#).unwrap_err(), Refusal::Json);
+/// let keys = Keys::from_secret(b"a secret of at least 32 characters", "HS256")?;
+/// assert!(keys.can_verify());
+/// assert_eq!(format!("{keys:?}"), "Keys(1)");
+/// # Ok::<(), Refusal>(())
+/// ```
+#[derive(Clone)]
+pub struct Keys {
+    text: Vec<u8>,
+    thumbprints: Vec<String>,
+    can_verify: bool,
+}
+
+/// Tokens that nobody signed, one for each algorithm, with the length of its signature. If a key may verify the algorithm, they are refused with
+/// `NotOpened`.
+const FORGED: [(&str, usize); 3] = [
+    ("eyJhbGciOiJIUzI1NiJ9", 43),
+    ("eyJhbGciOiJIUzM4NCJ9", 64),
+    ("eyJhbGciOiJIUzUxMiJ9", 86),
+];
+
+impl Keys {
+    /// Reads the JSON text of a key or of a set. A text without a good key is refused.
+    pub fn new(text: &[u8]) -> Result<Keys, Refusal> {
+        let lines = crate::thumbprints(text, Hash::Sha256)?;
+        let can_verify = FORGED.iter().any(|(header, length)| {
+            let token = format!("{header}..{}", "A".repeat(*length));
+            crate::verify(text, token.as_bytes(), Signers::One) == Err(Refusal::NotOpened)
+        });
+        Ok(Keys {
+            text: text.to_vec(),
+            thumbprints: lines.split('\n').map(str::to_string).collect(),
+            can_verify,
+        })
+    }
+
+    /// Makes a key from the octets of a secret that both sides share, for one algorithm, such as `HS256`.
+    ///
+    /// A secret that is too short for the algorithm is [`KeyDoesNotFit`](Refusal::KeyDoesNotFit): `HS256` needs 32 octets (RFC 7518 section 3.2).
+    /// An `alg` that is no name of an algorithm is [`Unsupported`](Refusal::Unsupported).
+    pub fn from_secret(secret: &[u8], alg: &str) -> Result<Keys, Refusal> {
+        let known = |octet: u8| octet.is_ascii_alphanumeric() || octet == b'-' || octet == b'+';
+        if !alg.bytes().all(known) {
+            return Err(Refusal::Unsupported);
+        }
+        let k = base64url(secret);
+        let keys = Keys::new(format!(r#"{{"kty":"oct","alg":"{alg}","k":"{k}"}}"#).as_bytes())?;
+        // What may sign or encrypt nothing is refused here. A password may have any length.
+        if alg.starts_with("HS") {
+            keys.sign(b"{}", Form::Compact, b"")?;
+        } else if !alg.starts_with("PBES2") {
+            keys.encrypt(b"{}", Form::Compact, b"")?;
+        }
+        Ok(keys)
+    }
+
+    /// The number of good keys, which is not 0.
+    #[must_use]
+    #[allow(clippy::len_without_is_empty)]
+    pub fn len(&self) -> usize {
+        self.thumbprints.len()
+    }
+
+    /// Whether one of the keys may verify signatures. A service that verifies tokens asks this when it starts.
+    #[must_use]
+    pub fn can_verify(&self) -> bool {
+        self.can_verify
+    }
+
+    /// The thumbprints of the good keys by SHA-256 (RFC 7638), in their order. That of a password is not safe to publish: it lets anyone test
+    /// guesses.
+    #[must_use]
+    pub fn thumbprints(&self) -> &[String] {
+        &self.thumbprints
+    }
+
+    /// The JSON text, with the secrets.
+    #[must_use]
+    pub fn text(&self) -> &[u8] {
+        &self.text
+    }
+
+    /// [`sign`](crate::sign) with these keys.
+    pub fn sign(&self, wanted: &[u8], form: Form, payload: &[u8]) -> Result<String, Refusal> {
+        crate::sign(&self.text, wanted, form, payload)
+    }
+
+    /// [`sign_detached`](crate::sign_detached) with these keys.
+    pub fn sign_detached(
+        &self,
+        wanted: &[u8],
+        form: Form,
+        payload: &[u8],
+    ) -> Result<String, Refusal> {
+        crate::sign_detached(&self.text, wanted, form, payload)
+    }
+
+    /// [`verify`](crate::verify) with these keys, one of which must have signed the object.
+    pub fn verify(&self, object: &[u8]) -> Result<Vec<u8>, Refusal> {
+        crate::verify(&self.text, object, Signers::One)
+    }
+
+    /// [`verify_detached`](crate::verify_detached) with these keys, one of which must have signed the object.
+    pub fn verify_detached(&self, object: &[u8], payload: &[u8]) -> Result<(), Refusal> {
+        crate::verify_detached(&self.text, object, Signers::One, payload)
+    }
+
+    /// [`verify_all`](crate::verify_all) with these keys.
+    pub fn verify_all(&self, signers: usize, object: &[u8]) -> Result<Vec<u8>, Refusal> {
+        crate::verify_all(&self.text, signers, object)
+    }
+
+    /// [`verify_all_detached`](crate::verify_all_detached) with these keys.
+    pub fn verify_all_detached(
+        &self,
+        signers: usize,
+        object: &[u8],
+        payload: &[u8],
+    ) -> Result<(), Refusal> {
+        crate::verify_all_detached(&self.text, signers, object, payload)
+    }
+
+    /// [`encrypt`](crate::encrypt) with these keys.
+    pub fn encrypt(&self, wanted: &[u8], form: Form, plaintext: &[u8]) -> Result<String, Refusal> {
+        crate::encrypt(&self.text, wanted, form, plaintext)
+    }
+
+    /// [`encrypt_detached`](crate::encrypt_detached) with these keys.
+    pub fn encrypt_detached(
+        &self,
+        wanted: &[u8],
+        form: Form,
+        plaintext: &[u8],
+    ) -> Result<(String, Vec<u8>), Refusal> {
+        crate::encrypt_detached(&self.text, wanted, form, plaintext)
+    }
+
+    /// [`decrypt`](crate::decrypt) with these keys.
+    pub fn decrypt(&self, object: &[u8], ciphertext: Option<&[u8]>) -> Result<Vec<u8>, Refusal> {
+        crate::decrypt(&self.text, object, ciphertext)
+    }
+
+    /// [`decrypt_with_iterations`](crate::decrypt_with_iterations) with these keys.
+    pub fn decrypt_with_iterations(
+        &self,
+        object: &[u8],
+        ciphertext: Option<&[u8]>,
+        iterations: u64,
+    ) -> Result<Vec<u8>, Refusal> {
+        crate::decrypt_with_iterations(&self.text, object, ciphertext, iterations)
+    }
+}
+
+impl fmt::Debug for Keys {
+    /// Writes the number of the keys.
+    fn fmt(&self, out: &mut fmt::Formatter<'_>) -> fmt::Result {
+        write!(out, "Keys({})", self.len())
+    }
+}
+
+/// The base64url text of these octets, without padding (RFC 4648 section 5).
+fn base64url(octets: &[u8]) -> String {
+    const DIGITS: &[u8; 64] = b"ABCDEFGHIJKLMNOPQRSTUVWXYZabcdefghijklmnopqrstuvwxyz0123456789-_";
+    let mut text = String::new();
+    for group in octets.chunks(3) {
+        let bits = group
+            .iter()
+            .fold(0, |bits, octet| bits << 8 | usize::from(*octet))
+            << (8 * (3 - group.len()));
+        for place in 0..=group.len() {
+            text.push(DIGITS[bits >> (18 - 6 * place) & 63].into());
+        }
+    }
+    text
+}

@@ -1,0 +1,172 @@
+//! Keys that are judged when they are read.
+
+mod common;
+
+use common::*;
+use lakhdzeva::{Form, Hash, Keys, Refusal};
+
+const HS256_KEY: &str =
+    r#"{"kty":"oct","alg":"HS256","k":"AAECAwQFBgcICQoLDA0ODxAREhMUFRYXGBkaGxwdHh8"}"#;
+
+fn keys_of(text: &str) -> Keys {
+    Keys::new(text.as_bytes()).unwrap()
+}
+
+#[test]
+fn keys_of_each_source() {
+    let octets: Vec<u8> = (0..32).collect();
+    let set = format!(r#"{{"keys":[{HS256_KEY},{{"kty":"RSA"}},{OTHER_KEY}]}}"#);
+    for (keys, count) in [
+        (keys_of(HS256_KEY), 1),
+        (Keys::from_secret(&octets, "HS256").unwrap(), 1),
+        (keys_of(&set), 2),
+    ] {
+        assert_eq!(keys.verify(SIGNED_BY_OTHER).unwrap(), b"hello");
+        assert_eq!((keys.len(), keys.can_verify()), (count, true));
+        let lines = lakhdzeva::thumbprints(keys.text(), Hash::Sha256).unwrap();
+        assert_eq!(keys.thumbprints().join("\n"), lines);
+        assert_eq!(keys.clone().text(), keys.text());
+    }
+}
+
+#[test]
+fn broken_keys_are_refused() {
+    let many = copies(HS256_KEY, 65);
+    for (text, refusal) in [
+        ("", Refusal::Json),
+        ("secret", Refusal::Json),
+        (&HS256_KEY[..60], Refusal::Json),
+        ("{}", Refusal::Key),
+        (r#"{"kty":"RSA","n":"AQAB","e":"AQAB"}"#, Refusal::Key),
+        (r#"{"keys":[]}"#, Refusal::Key),
+        (r#"{"kty":"oct","k":"AA","n":1.5}"#, Refusal::Number),
+        (&many, Refusal::Limit),
+    ] {
+        assert_eq!(Keys::new(text.as_bytes()).unwrap_err(), refusal, "{text}");
+    }
+}
+
+#[test]
+fn secrets_of_octets() {
+    for (octets, alg) in [
+        (31, "HS256"),
+        (32, "HS512"),
+        (15, "A128KW"),
+        (33, "A256GCM"),
+    ] {
+        let refused = Keys::from_secret(&vec![7; octets], alg).unwrap_err();
+        assert_eq!(refused, Refusal::KeyDoesNotFit, "{alg}");
+    }
+    assert_eq!(Keys::from_secret(b"", "HS256").unwrap_err(), Refusal::Key);
+    for alg in ["RS256", "none", "", "HS257", "HS256\"", "\\", "HS256 "] {
+        assert!(Keys::from_secret(&[7; 32], alg).is_err(), "{alg}");
+    }
+    for alg in ["HS256", "A256KW", "A256GCM", "PBES2-HS256+A128KW"] {
+        // The text of a key has the octets again, of each length of base64url.
+        for length in [
+            32,
+            32 + usize::from(alg.starts_with("HS") || alg.starts_with('P')),
+        ] {
+            let octets: Vec<u8> = (0..length).map(|it| (it * 37 + 251) as u8).collect();
+            let keys = Keys::from_secret(&octets, alg).unwrap();
+            let text = String::from_utf8(keys.text().to_vec()).unwrap();
+            let k = text
+                .split(r#""k":""#)
+                .nth(1)
+                .unwrap()
+                .trim_end_matches("\"}");
+            let object = format!("eyJhbGciOiJIUzI1NiJ9.{k}.AAAA");
+            let (_, decoded) =
+                lakhdzeva::format_signed_detached(object.as_bytes(), None, Form::Compact).unwrap();
+            assert_eq!(decoded, octets);
+        }
+    }
+}
+
+#[test]
+fn keys_that_verify_nothing() {
+    let wrapping = HS256_KEY.replace("HS256", "A256KW");
+    let encrypting = HS256_KEY.replace('{', r#"{"use":"enc","#);
+    let verifying = HS256_KEY.replace('{', r#"{"key_ops":["verify"],"#);
+    let short = key_of('A', 22);
+    for text in [&wrapping, &encrypting, &short] {
+        assert!(!keys_of(text).can_verify(), "{text}");
+    }
+    for text in [
+        &verifying,
+        OTHER_KEY,
+        &set_of(&[short, HS256_KEY.to_string()]),
+    ] {
+        assert!(keys_of(text).can_verify(), "{text}");
+    }
+}
+
+#[test]
+fn a_bad_token_is_no_fault() {
+    let keys = keys_of(HS256_KEY);
+    let signature = r#"{"protected":"eyJhbGciOiJIUzI1NiJ9","signature":"AAAA"}"#;
+    let many = format!(
+        r#"{{"payload":"","signatures":[{}]}}"#,
+        vec![signature; 257].join(",")
+    );
+    for (token, refusal) in [
+        ("eyJhbGciOiJIUzI1NiJ9.aGk.A=", Refusal::Base64),
+        ("ew.aGk.AAAA", Refusal::Json),
+        ("eyJhbGciOiJIUzI1NiIsIm4iOjEuNX0.aGk.AAAA", Refusal::Number),
+        ("", Refusal::Form),
+        ("a.b", Refusal::Form),
+        ("e30.aGk.AAAA", Refusal::Header),
+        ("eyJhbGciOiJub25lIn0.aGk.", Refusal::Unsupported),
+        ("eyJhbGciOiJIUzUxMiJ9.aGk.AAAA", Refusal::KeyDoesNotFit),
+        (&many, Refusal::Limit),
+        ("eyJhbGciOiJIUzI1NiJ9.aGk.AAAA", Refusal::NotOpened),
+    ] {
+        assert_eq!(keys.verify(token.as_bytes()), Err(refusal), "{token}");
+        assert!(!refusal.is_fault(), "{refusal}");
+    }
+    assert_eq!(keys.verify_all(2, SIGNED_BY_OTHER), Err(Refusal::Key));
+    for fault in [
+        Refusal::Usage,
+        Refusal::Read,
+        Refusal::Write,
+        Refusal::Memory,
+        Refusal::Random,
+        Refusal::Key,
+        Refusal::NoAlgorithm,
+        Refusal::Unknown(18),
+    ] {
+        assert!(fault.is_fault(), "{fault}");
+    }
+}
+
+#[test]
+fn each_method() {
+    let (keys, wrap) = (keys_of(HS256_KEY), Keys::new(RFC7516_KEY).unwrap());
+    let object = keys.sign(b"{}", Form::Compact, b"hello").unwrap();
+    assert_eq!(object.as_bytes(), SIGNED_BY_OTHER);
+    assert_eq!(keys.verify_all(1, object.as_bytes()).unwrap(), b"hello");
+    let object = keys.sign_detached(b"{}", Form::Compact, b"hello").unwrap();
+    assert_eq!(keys.verify_detached(object.as_bytes(), b"hello"), Ok(()));
+    assert_eq!(
+        keys.verify_all_detached(1, object.as_bytes(), b"hello"),
+        Ok(())
+    );
+    let object = wrap.encrypt(b"{}", Form::Compact, b"hello").unwrap();
+    assert_eq!(wrap.decrypt(object.as_bytes(), None).unwrap(), b"hello");
+    let (object, ciphertext) = wrap.encrypt_detached(b"{}", Form::Json, b"hello").unwrap();
+    let opened = wrap.decrypt_with_iterations(object.as_bytes(), Some(&ciphertext), 0);
+    assert_eq!(opened.unwrap(), b"hello");
+}
+
+#[test]
+fn nothing_secret_is_printed() {
+    let keys = keys_of(&set_of(&[HS256_KEY.to_string(), OTHER_KEY.to_string()]));
+    for text in [format!("{keys:?}"), format!("{keys:#?}")] {
+        assert_eq!(text, "Keys(2)");
+    }
+}
+
+#[test]
+fn the_version_has_three_numbers() {
+    assert_eq!(lakhdzeva::version().split('.').count(), 3);
+}

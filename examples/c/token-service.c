@@ -1,0 +1,232 @@
+/* A web service that answers only requests with a valid token (RFC 6750):
+
+     cc -O2 token-service.c claims.c -o token-service $(pkg-config --cflags --libs lakhdzeva jansson) -pthread
+     ./token-service service.jwk 8080 login api
+
+   The words are the file of the keys, the port, the issuer and the audience that each token must name. The file has one key, or a set of keys
+   while one key replaces another. If it changes, the service reads it again. If the new keys are broken, it says so and keeps the old ones, so
+   write a new file and rename it. A bad token is 401. What is not the sender's fault is 500. Put a server in front that speaks TLS. */
+#define _GNU_SOURCE
+#include "claims.h"
+
+#include <arpa/inet.h>
+#include <lakhdzeva.h>
+#include <pthread.h>
+#include <signal.h>
+#include <stdbool.h>
+#include <stdint.h>
+#include <stdio.h>
+#include <stdlib.h>
+#include <string.h>
+#include <strings.h>
+#include <sys/socket.h>
+#include <sys/stat.h>
+#include <sys/time.h>
+#include <time.h>
+#include <unistd.h>
+
+/* A longer header is not looked at, since the work grows with it. LEEWAY has the seconds by which the clocks may differ. */
+enum { MOST_OCTETS = 4096, MOST_HEAD = 16384, MOST_KEYS = 1 << 20, LEEWAY = 30 };
+
+/* ---- The keys in a file, which are read again when the file changes. */
+
+struct keys {
+    char *text;
+    size_t length, count;
+};
+
+static const char *key_file;
+static struct stat seen;
+static struct keys keys;
+static pthread_mutex_t lock = PTHREAD_MUTEX_INITIALIZER;
+
+/* Tokens that nobody signed, one for each algorithm, with the length of its signature. If a key may verify the algorithm, they are not opened. */
+static bool can_verify(const struct keys *found) {
+    static const struct {
+        const char *header;
+        size_t length;
+    } forged[] = {{"eyJhbGciOiJIUzI1NiJ9..", 43}, {"eyJhbGciOiJIUzM4NCJ9..", 64}, {"eyJhbGciOiJIUzUxMiJ9..", 86}};
+    for (size_t i = 0; i < 3; i++) {
+        char token[128], payload[128];
+        size_t header = strlen(forged[i].header), length = 0;
+        memcpy(token, forged[i].header, header);
+        memset(token + header, 'A', forged[i].length);
+        if (lakhdzeva_verify(found->text, found->length, token, header + forged[i].length, 0, payload, sizeof payload, &length) == LAKHDZEVA_NOT_OPENED)
+            return true;
+    }
+    return false;
+}
+
+/* Reads the text of keys, and judges it. Returns what is wrong, or NULL. */
+static const char *read_keys(struct keys *found) {
+    FILE *file = fopen(key_file, "rb");
+    char lines[87 * 64];
+    size_t length = 0;
+    if (!file) return "it cannot be read";
+    found->text = malloc(MOST_KEYS);
+    found->length = found->text ? fread(found->text, 1, MOST_KEYS, file) : 0;
+    bool whole = found->text && feof(file) && !ferror(file);
+    fclose(file);
+    if (!whole) return "it cannot be read, or is too long";
+    enum lakhdzeva_status status = lakhdzeva_thumbprints(found->text, found->length, 256, lines, sizeof lines, &length);
+    if (status) return lakhdzeva_name(status);
+    if (!can_verify(found)) return "no key in it may verify a signature";
+    found->count = 1;
+    for (size_t i = 0; i < length; i++) found->count += lines[i] == '\n';
+    return NULL;
+}
+
+static void forget(struct keys *old) {
+    if (old->text) explicit_bzero(old->text, old->length);
+    free(old->text);
+    *old = (struct keys){0};
+}
+
+/* Reads the keys again if the file is not the one that was read. Returns what is wrong, or NULL. */
+static const char *look_again(void) {
+    struct stat now;
+    struct keys found = {0};
+    if (stat(key_file, &now)) return "it cannot be found";
+    if (now.st_ino == seen.st_ino && now.st_size == seen.st_size && now.st_mtim.tv_sec == seen.st_mtim.tv_sec && now.st_mtim.tv_nsec == seen.st_mtim.tv_nsec)
+        return NULL;
+    seen = now;
+    const char *wrong = read_keys(&found);
+    if (wrong) forget(&found);
+    else {
+        fprintf(stderr, "token-service: %s: keys: %zu\n", key_file, found.count);
+        forget(&keys);
+        keys = found;
+    }
+    return wrong;
+}
+
+/* Copies the keys that the file has now, or had before it was broken. */
+static bool copy_keys(struct keys *copy) {
+    pthread_mutex_lock(&lock);
+    const char *wrong = look_again();
+    if (wrong) fprintf(stderr, "token-service: %s is not read again: %s\n", key_file, wrong);
+    copy->text = malloc(keys.length);
+    copy->length = keys.length;
+    if (copy->text) memcpy(copy->text, keys.text, keys.length);
+    pthread_mutex_unlock(&lock);
+    return copy->text != NULL;
+}
+
+/* ---- Requests */
+
+static struct expected expected = {NULL, NULL, NULL, LEEWAY};
+
+/* What a request gets. `claims` is not NULL if its token is valid. */
+struct answer {
+    int status;
+    const char *why;
+    json_t *claims;
+};
+
+/* The token of a header, or NULL. The scheme may be in small letters or capitals (RFC 9110 section 11.1). */
+static const char *token_of(const char *header) {
+    size_t scheme = strcspn(header, " ");
+    if (scheme != 6 || strncasecmp(header, "bearer", 6) || strlen(header) > MOST_OCTETS) return NULL;
+    return header + scheme + strspn(header + scheme, " ");
+}
+
+static struct answer judge(const char *header) {
+    if (!*header) return (struct answer){401, "", NULL};
+    const char *token = token_of(header);
+    if (!token) return (struct answer){401, "form", NULL};
+    struct keys copy;
+    if (!copy_keys(&copy)) return (struct answer){500, "Memory", NULL};
+    char payload[MOST_OCTETS];
+    size_t length = 0;
+    enum lakhdzeva_status status = lakhdzeva_verify(copy.text, copy.length, token, strlen(token), 0, payload, sizeof payload, &length);
+    forget(&copy);
+    /* The keys were judged when they were read. So only memory and a buffer that is too small are this side's fault. */
+    if (status) return (struct answer){status <= LAKHDZEVA_RANDOM || status == LAKHDZEVA_KEY ? 500 : 401, lakhdzeva_name(status), NULL};
+    struct timespec now;
+    clock_gettime(CLOCK_REALTIME, &now);
+    struct answer answer = {401, NULL, NULL};
+    answer.why = claims_of(token, strlen(token), payload, length, &expected, (double)now.tv_sec + (double)now.tv_nsec / 1e9, &answer.claims);
+    if (!answer.why && !json_is_string(json_object_get(answer.claims, "sub"))) answer.why = "sub";
+    if (!answer.why) answer.status = 200;
+    return answer;
+}
+
+/* Reads the head of the request, and puts the value of the header Authorization into `value`. Of several, none is taken. */
+static bool read_head(int stream, char head[MOST_HEAD + 1], const char **value) {
+    size_t length = 0;
+    head[0] = 0;
+    while (!strstr(head, "\r\n\r\n")) {
+        ssize_t got = length < MOST_HEAD ? read(stream, head + length, MOST_HEAD - length) : 0;
+        if (got <= 0 || memchr(head + length, 0, (size_t)got)) return false;
+        head[length += (size_t)got] = 0;
+    }
+    *value = "";
+    for (char *line = head, *end; (end = strstr(line, "\r\n")) && end != line; line = end + 2) {
+        *end = 0;
+        if (strncasecmp(line, "authorization:", 14)) continue;
+        char *last = end;
+        while (last > line && (last[-1] == ' ' || last[-1] == '\t')) *--last = 0;
+        *value = **value ? "several" : line + 14 + strspn(line + 14, " \t");
+    }
+    return true;
+}
+
+static void respond(int stream, const struct answer *answer) {
+    static const char invalid[] = "WWW-Authenticate: Bearer error=\"invalid_token\"\r\n", none[] = "WWW-Authenticate: Bearer\r\n";
+    const char *status = answer->status == 200 ? "200 OK" : answer->status == 401 ? "401 Unauthorized" : "500 Internal Server Error";
+    const char *challenge = answer->status != 401 ? "" : *answer->why ? invalid : none;
+    const char *error = answer->status == 500 ? "the service has a fault" : challenge == none ? "no token" : "no valid token";
+    json_t *object = answer->status == 200 ? json_pack("{sO}", "you", json_object_get(answer->claims, "sub")) : json_pack("{ss}", "error", error);
+    char *body = object ? json_dumps(object, JSON_COMPACT) : NULL, head[512];
+    if (body) {
+        int length = snprintf(head, sizeof head, "HTTP/1.1 %s\r\n%sContent-Type: application/json\r\nContent-Length: %zu\r\nConnection: close\r\n\r\n",
+            status, challenge, strlen(body));
+        if (write(stream, head, (size_t)length) == length && write(stream, body, strlen(body)) < 0) perror("token-service");
+    }
+    free(body);
+    json_decref(object);
+}
+
+static void *serve(void *given) {
+    int stream = (int)(intptr_t)given;
+    char head[MOST_HEAD + 1];
+    const char *header = "";
+    if (read_head(stream, head, &header)) {
+        struct answer answer = judge(header);
+        if (answer.status != 200 && *answer.why) fprintf(stderr, "token-service: %d: %s\n", answer.status, answer.why);
+        respond(stream, &answer);
+        json_decref(answer.claims);
+    }
+    close(stream);
+    return NULL;
+}
+
+int main(int count, char **words) {
+    if (count != 5) return fprintf(stderr, "usage: token-service KEYS PORT ISSUER AUDIENCE\n"), 1;
+    key_file = words[1], expected.issuer = words[3], expected.audience = words[4];
+    /* Broken keys end the service here, and not at each request. */
+    const char *wrong = look_again();
+    if (wrong) return fprintf(stderr, "token-service: %s: %s\n", key_file, wrong), 1;
+    signal(SIGPIPE, SIG_IGN);
+    struct sockaddr_in at = {.sin_family = AF_INET, .sin_port = htons((uint16_t)atoi(words[2])), .sin_addr.s_addr = htonl(INADDR_LOOPBACK)};
+    socklen_t length = sizeof at;
+    int listener = socket(AF_INET, SOCK_STREAM, 0), yes = 1;
+    setsockopt(listener, SOL_SOCKET, SO_REUSEADDR, &yes, sizeof yes);
+    if (bind(listener, (struct sockaddr *)&at, sizeof at) || listen(listener, 1024) || getsockname(listener, (struct sockaddr *)&at, &length))
+        return perror("token-service"), 1;
+    printf("listening on port %u\n", ntohs(at.sin_port));
+    fflush(stdout);
+    for (;;) {
+        pthread_t thread;
+        int stream = accept(listener, NULL, NULL);
+        struct timeval ten = {10, 0};
+        setsockopt(stream, SOL_SOCKET, SO_RCVTIMEO, &ten, sizeof ten);
+        setsockopt(stream, SOL_SOCKET, SO_SNDTIMEO, &ten, sizeof ten);
+        if (stream < 0 || pthread_create(&thread, NULL, serve, (void *)(intptr_t)stream)) {
+            /* Too many are open, or there is no memory for another thread. */
+            perror("token-service");
+            if (stream >= 0) close(stream);
+            nanosleep(&(struct timespec){0, 20000000}, NULL);
+        } else pthread_detach(thread);
+    }
+}

@@ -1,0 +1,152 @@
+// Command token-service answers only requests with a valid token (RFC 6750):
+//
+//	go build && ./token-service service.jwk 8080 login api
+//
+// The words are the file of the keys, the port, the issuer and the audience that each token must name. The file has one key, or a set of keys
+// while one key replaces another. If it changes, the service reads it again. If the new keys are broken, it says so and keeps the old ones, so
+// write a new file and rename it. A bad token is 401. What is not the sender's fault is 500. Put a server in front that speaks TLS.
+package main
+
+import (
+	"encoding/json"
+	"errors"
+	"fmt"
+	"log"
+	"net"
+	"net/http"
+	"os"
+	"regexp"
+	"sync"
+	"time"
+
+	"lakhdzeva.example/lakhdzeva/v3"
+)
+
+// A longer header is not looked at, since the work grows with it.
+const mostOctets = 4096
+
+// Seconds by which the clocks may differ.
+const leeway = 30
+
+// The scheme may be in small letters or capitals (RFC 9110 section 11.1). A JWT is in compact form.
+var credentials = regexp.MustCompile(`^(?i:bearer) +([A-Za-z0-9_.-]+)\z`)
+
+// keyFile has the keys in a file, which are read again when the file changes.
+type keyFile struct {
+	name  string
+	mutex sync.Mutex
+	seen  os.FileInfo
+	keys  *lakhdzeva.Keys
+}
+
+// read reads the keys, if the file is not the one that was read.
+func (file *keyFile) read() error {
+	seen, err := os.Stat(file.name)
+	if err != nil {
+		return err
+	}
+	if file.seen != nil && os.SameFile(seen, file.seen) && seen.Size() == file.seen.Size() && seen.ModTime().Equal(file.seen.ModTime()) {
+		return nil
+	}
+	file.seen = seen
+	text, err := os.ReadFile(file.name)
+	if err != nil {
+		return err
+	}
+	keys, err := lakhdzeva.NewKeys(text)
+	if err != nil {
+		return err
+	}
+	if !keys.CanVerify() {
+		return errors.New("no key in it may verify a signature")
+	}
+	log.Printf("%s: keys: %d", file.name, keys.Len())
+	file.keys = keys
+	return nil
+}
+
+// now returns the keys that the file has now, or had before it was broken.
+func (file *keyFile) now() *lakhdzeva.Keys {
+	file.mutex.Lock()
+	defer file.mutex.Unlock()
+	if err := file.read(); err != nil {
+		log.Printf("%s is not read again: %v", file.name, err)
+	}
+	return file.keys
+}
+
+type service struct {
+	file     *keyFile
+	expected Expected
+}
+
+// subject returns for whom the token in this header is, or what is wrong with it.
+func (service *service) subject(header string) (string, error) {
+	found := credentials.FindStringSubmatch(header)
+	if found == nil || len(header) > mostOctets {
+		return "", errors.New("form")
+	}
+	token := []byte(found[1])
+	payload, err := service.file.now().Verify(token)
+	if err != nil {
+		return "", err
+	}
+	claims, err := claimsOf(token, payload, service.expected, float64(time.Now().UnixNano())/1e9)
+	if err != nil {
+		return "", err
+	}
+	if subject, isText := claims["sub"].(string); isText {
+		return subject, nil
+	}
+	return "", errors.New("sub")
+}
+
+func (service *service) ServeHTTP(out http.ResponseWriter, request *http.Request) {
+	header := request.Header.Get("Authorization")
+	status, challenge, answer := http.StatusOK, "", map[string]string{}
+	subject, err := service.subject(header)
+	var refusal lakhdzeva.Refusal
+	switch {
+	case err == nil:
+		answer["you"] = subject
+	case header == "":
+		status, challenge, answer["error"] = http.StatusUnauthorized, "Bearer", "no token"
+	case errors.As(err, &refusal) && refusal.Fault():
+		// The keys or this machine are at fault. The sender need not know why.
+		log.Print(err)
+		status, answer["error"] = http.StatusInternalServerError, "the service has a fault"
+	default:
+		log.Printf("a bad token: %v", err)
+		status, challenge, answer["error"] = http.StatusUnauthorized, `Bearer error="invalid_token"`, "no valid token"
+	}
+	if challenge != "" {
+		out.Header().Set("WWW-Authenticate", challenge)
+	}
+	out.Header().Set("Content-Type", "application/json")
+	out.WriteHeader(status)
+	_ = json.NewEncoder(out).Encode(answer)
+}
+
+func main() {
+	log.SetFlags(0)
+	log.SetPrefix("token-service: ")
+	if len(os.Args) != 5 {
+		log.Fatal("usage: token-service KEYS PORT ISSUER AUDIENCE")
+	}
+	// Broken keys end the service here, and not at each request.
+	file := &keyFile{name: os.Args[1]}
+	if err := file.read(); err != nil {
+		log.Fatalf("%s: %v", file.name, err)
+	}
+	listener, err := net.Listen("tcp", "127.0.0.1:"+os.Args[2])
+	if err != nil {
+		log.Fatal(err)
+	}
+	fmt.Println("listening on port", listener.Addr().(*net.TCPAddr).Port)
+	server := http.Server{
+		Handler:           &service{file, Expected{Issuer: os.Args[3], Audience: os.Args[4], Leeway: leeway}},
+		MaxHeaderBytes:    2 * mostOctets,
+		ReadHeaderTimeout: 10 * time.Second,
+	}
+	log.Fatal(server.Serve(listener))
+}

@@ -1,0 +1,94 @@
+/* Calls the library from Node.js, by Node-API, which is the same in every version of Node since 10:
+
+     cc -O2 -shared -fPIC -I/usr/include/node lakhdzeva.c -o lakhdzeva.node $(pkg-config --cflags --libs lakhdzeva)
+
+   Each text is a Buffer. Each answer is a new Buffer. A refusal is thrown as an Error with the members `code`, such as "NotOpened", and
+   `number`. */
+#include <lakhdzeva.h>
+#include <node_api.h>
+#include <stdlib.h>
+
+struct text {
+    void *octets;
+    size_t length;
+};
+
+/* Reads as many Buffers as there are texts. Throws and returns 0 if the arguments are others. */
+static int read_texts(napi_env env, napi_callback_info info, size_t count, struct text *texts) {
+    napi_value given[4];
+    size_t found = 4;
+    bool fits = napi_get_cb_info(env, info, &found, given, NULL, NULL) == napi_ok && found == count;
+    for (size_t i = 0; fits && i < count; i++)
+        fits = napi_is_buffer(env, given[i], &fits) == napi_ok && fits && napi_get_buffer_info(env, given[i], &texts[i].octets, &texts[i].length) == napi_ok;
+    if (!fits) napi_throw_type_error(env, "ERR_INVALID_ARG_TYPE", "each argument must be a Buffer");
+    return fits;
+}
+
+/* The answer as a Buffer, or NULL after a refusal, which is thrown. The memory is freed. */
+static napi_value answer(napi_env env, enum lakhdzeva_status status, void *place, size_t length) {
+    napi_value result = NULL, number, code, message, error;
+    const char *name = lakhdzeva_name(status);
+    if (!place) status = LAKHDZEVA_MEMORY;
+    if (!status) napi_create_buffer_copy(env, length, place, NULL, &result);
+    else if (napi_create_uint32(env, status, &number) == napi_ok && napi_create_string_utf8(env, name, NAPI_AUTO_LENGTH, &code) == napi_ok
+        && napi_create_string_utf8(env, name, NAPI_AUTO_LENGTH, &message) == napi_ok && napi_create_error(env, code, message, &error) == napi_ok
+        && napi_set_named_property(env, error, "number", number) == napi_ok)
+        napi_throw(env, error);
+    free(place);
+    return result;
+}
+
+static napi_value thumbprints(napi_env env, napi_callback_info info) {
+    struct text keys;
+    if (!read_texts(env, info, 1, &keys)) return NULL;
+    size_t room = lakhdzeva_thumbprints_room(keys.length), length = 0;
+    void *place = malloc(room);
+    enum lakhdzeva_status status = LAKHDZEVA_MEMORY;
+    if (place) status = lakhdzeva_thumbprints(keys.octets, keys.length, 256, place, room, &length);
+    return answer(env, status, place, length);
+}
+
+static napi_value sign(napi_env env, napi_callback_info info) {
+    struct text of[3]; /* keys, template, payload */
+    if (!read_texts(env, info, 3, of)) return NULL;
+    size_t room = lakhdzeva_sign_room(of[0].length, of[1].length, of[2].length), length = 0;
+    void *place = malloc(room);
+    enum lakhdzeva_status status = LAKHDZEVA_MEMORY;
+    if (place)
+        status = lakhdzeva_sign(of[0].octets, of[0].length, of[1].octets, of[1].length, LAKHDZEVA_COMPACT, of[2].octets, of[2].length, place, room, &length);
+    return answer(env, status, place, length);
+}
+
+static napi_value verify(napi_env env, napi_callback_info info) {
+    struct text of[2]; /* keys, token */
+    if (!read_texts(env, info, 2, of)) return NULL;
+    size_t room = lakhdzeva_verify_room(of[1].length), length = 0;
+    void *place = malloc(room + !room);
+    enum lakhdzeva_status status = LAKHDZEVA_MEMORY;
+    if (place) status = lakhdzeva_verify(of[0].octets, of[0].length, of[1].octets, of[1].length, 0, place, room, &length);
+    return answer(env, status, place, length);
+}
+
+static napi_value decrypt(napi_env env, napi_callback_info info) {
+    struct text of[2]; /* keys, token */
+    if (!read_texts(env, info, 2, of)) return NULL;
+    size_t room = lakhdzeva_decrypt_room(of[1].length, 0), length = 0;
+    void *place = malloc(room + !room);
+    enum lakhdzeva_status status = LAKHDZEVA_MEMORY;
+    if (place) status = lakhdzeva_decrypt(of[0].octets, of[0].length, of[1].octets, of[1].length, NULL, 0, 0, place, room, &length);
+    return answer(env, status, place, length);
+}
+
+NAPI_MODULE_INIT() {
+    const struct {
+        const char *name;
+        napi_callback function;
+    } all[] = {{"thumbprints", thumbprints}, {"sign", sign}, {"verify", verify}, {"decrypt", decrypt}};
+    for (size_t i = 0; i < sizeof all / sizeof *all; i++) {
+        napi_value function;
+        if (napi_create_function(env, all[i].name, NAPI_AUTO_LENGTH, all[i].function, NULL, &function) != napi_ok
+            || napi_set_named_property(env, exports, all[i].name, function) != napi_ok)
+            return NULL;
+    }
+    return exports;
+}

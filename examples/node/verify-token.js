@@ -1,0 +1,23 @@
+#!/usr/bin/env node
+// Verifies a token with the keys in a file, and writes its payload: node verify-token.js KEYS TOKEN, where both are files. The head of lakhdzeva.c
+// says how to make lakhdzeva.node. Whether the claims in the payload are valid now, and for whom, is for your program to decide.
+"use strict";
+const fs = require("node:fs");
+const lakhdzeva = require("./lakhdzeva.node");
+
+// The refusals that are about this machine or the keys. With keys that were judged, each other one is about the token.
+const FAULTS = ["Usage", "Read", "Write", "Memory", "Random", "Key"];
+
+function main([keysFile, tokenFile]) {
+    const keys = fs.readFileSync(keysFile);
+    lakhdzeva.thumbprints(keys); // Broken keys end the program here.
+    try {
+        process.stdout.write(lakhdzeva.verify(keys, fs.readFileSync(tokenFile)));
+    } catch (error) {
+        if (!error.number || FAULTS.includes(error.code)) throw error;
+        console.error(`verify-token: ${error.number} ${error.code}`);
+        process.exitCode = 1;
+    }
+}
+
+main(process.argv.slice(2));

@@ -1,0 +1,51 @@
+// Does what judge.py does, by claims.go.
+package main
+
+import (
+	"bufio"
+	"fmt"
+	"os"
+	"strconv"
+	"strings"
+
+	"lakhdzeva.example/lakhdzeva/v3"
+)
+
+func number(text string) float64 {
+	value, err := strconv.ParseFloat(text, 64)
+	if err != nil {
+		panic(err)
+	}
+	return value
+}
+
+func answer(keys *lakhdzeva.Keys, line string) string {
+	fields := strings.Split(line, "\t")
+	for at := 2; at < 5; at++ {
+		if fields[at] == "-" {
+			fields[at] = ""
+		}
+	}
+	expected := Expected{Issuer: fields[2], Audience: fields[3], Type: fields[4], Leeway: number(fields[1])}
+	token := []byte(fields[5])
+	payload, err := keys.Verify(token)
+	if err == nil {
+		_, err = claimsOf(token, payload, expected, number(fields[0]))
+	}
+	if err != nil {
+		return err.Error()
+	}
+	return "yes"
+}
+
+func main() {
+	keys, err := lakhdzeva.NewKeys([]byte(os.Args[1]))
+	if err != nil {
+		panic(err)
+	}
+	lines := bufio.NewScanner(os.Stdin)
+	lines.Buffer(nil, 1<<20)
+	for lines.Scan() {
+		fmt.Println(answer(keys, lines.Text()))
+	}
+}

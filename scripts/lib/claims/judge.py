@@ -1,0 +1,26 @@
+"""Verifies each token of standard input with the keys in the first argument, and judges its claims by examples/python/claims.py. A line has the
+time, the leeway, the issuer, the audience and the type that are expected, or - for none, and the token, with tabs between them. Prints for each
+`yes`, the claim that is wrong, or the refusal. The other programs of this folder do the same.
+"""
+import sys
+
+import lakhdzeva
+from claims import claims_of
+
+
+def answer(line):
+    now, leeway, issuer, audience, typ, token = line.split("\t")
+    issuer, audience, typ = (None if it == "-" else it for it in (issuer, audience, typ))
+    try:
+        payload = lakhdzeva.verify(keys, token)
+        claims = claims_of(token.encode(), payload, float(now), issuer=issuer, audience=audience, typ=typ, leeway=float(leeway))
+    except lakhdzeva.Refused as refused:
+        return str(refused)
+    except ValueError as wrong:
+        return str(wrong)
+    return "yes" if type(claims) is dict else f"{claims!r}"
+
+
+keys = lakhdzeva.Keys(sys.argv[1])
+for line in open(0, encoding="utf-8", newline="\n"):
+    print(answer(line.rstrip("\n")), flush=True)
