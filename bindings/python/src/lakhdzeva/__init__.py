@@ -21,8 +21,8 @@ The shared library ``liblakhdzeva.so.3`` does the work. This module passes octet
 A value of a class that is derived from one of these types counts as its built-in content: its own methods are not called.
 
 A refusal of the library is an exception, ``Refused``. If it is a ``BadToken``, the sender of the token is at fault. If it is a ``Fault``, the
-keys, a template or this machine are. The module ``refusals`` has a class for each refusal. An argument of another type is a ``TypeError``. A dict that cannot be written as JSON
-raises a ``TypeError``, a ``ValueError`` (such as one with a NaN) or a ``RecursionError`` (such as one that holds itself).
+keys, a template or this machine are. The module ``refusals`` has a class for each refusal. An argument of another type is a
+``TypeError``. A dict that cannot be written as JSON raises a ``TypeError``, a ``ValueError`` (such as one with a NaN) or a ``RecursionError`` (such as one that holds itself).
 
 What to mind with every function:
 
