@@ -28,13 +28,13 @@ rows:
 rows-try:
 	@scripts/rows-try $(FILES)
 
-# Proves the program and the library for C and builds them: crates/command/out/command, and liblakhdzeva.a and liblakhdzeva.so.3 in
-# crates/lakhdzeva/out/built.
+# Proves the programs and the library for C and builds them: crates/command/out/command and crates/toolbox/out/toolbox, and liblakhdzeva.a and
+# liblakhdzeva.so.3 in crates/lakhdzeva/out/built.
 build:
 	@scripts/build
 	@scripts/build-library
 
-# Proves the program for a processor and links it into one that needs no library of the system: out/static/TARGET/jose. TARGET is x86_64 or
+# Proves the programs for a processor and links each into one that needs no library of the system, in out/static/TARGET. TARGET is x86_64 or
 # aarch64 (ARM64), for which it also makes the archive of the library for C. Without TARGET it makes those for which the machine has tools.
 static:
 	@scripts/build-static $(TARGET)
@@ -117,8 +117,8 @@ pages:
 	@scripts/completions
 	@scripts/try-install
 
-# Runs every example of the README, the docs and the man pages, and every recipe of examples/, with the built program. Tries the tools of
-# tools/ in dash, busybox and bash, and makes the attacks that the recipes must withstand.
+# Runs every example of the README, the docs and the man pages, and every recipe of examples/, with the built programs. Tries the proved tools,
+# and those of tools/ in dash, busybox and bash, and makes the attacks that the recipes must withstand.
 tour:
 	@scripts/tour
 	@scripts/tools
@@ -144,7 +144,7 @@ dist:
 dist-try:
 	@scripts/dist-try
 
-# Installs the program that `make build` made, with the tools, man pages, completions, recipes and documents for users. It lists the files
+# Installs the programs that `make build` made, with the tools, man pages, completions, recipes and documents for users. It lists the files
 # and their checksums in share/doc/lakhdzeva/installed. If it would overwrite a file that no install listed, or one that was changed since,
 # it names the file and changes nothing. With FORCE=1 it overwrites these files.
 install:

@@ -6,7 +6,7 @@ usage: scripts/reached.py           compares and counts; scripts/calls does the 
        scripts/reached.py --kit     prints the pages of the kit that they use, all the way down, with their lines
 
 The promises are the contract of `run` (crates/jose/src/entry.rt), with the traits of its devices, those of the functions for C
-(crates/lakhdzeva/src/lib.rt), and the laws of each crate (src/laws.rt). A definition reaches what its type and its equations name, by the `use` lines of its page: other definitions, with records and data, and the
+(crates/lakhdzeva/src/lib.rt), those of the tools (TOOLS), and the laws of each crate (src/laws.rt). A definition reaches what its type and its equations name, by the `use` lines of its page: other definitions, with records and data, and the
 types of the code, which reach the types of their fields and what their invariants name. The views that contracts have of values of the code
 (`ghost view`) are not followed, and neither are proofs.
 
@@ -29,6 +29,8 @@ from lib.sources import CRATES, ROOT, block_end, exported, fault, faults, functi
 
 RUN = "jose/src/entry.rt"
 CALLS_FOR_C = "lakhdzeva/src/lib.rt"
+# The files with the calls of the tools, from devices to devices.
+TOOLS = ("tools/src/verifying.rt",)
 # The part of a page's name that marks pages about values and calls of the code.
 CODE = "/Code."
 ORDER, OTHERS = "The pages in reading order", "What need not be read"
@@ -241,8 +243,8 @@ def reach(library, roots):
 
 
 def promises(library):
-    """The definitions and types that the contract of `run` names, and those that the laws and the functions for C name."""
-    others = (CALLS_FOR_C, *(f"{crate}/src/laws.rt" for crate in CRATES))
+    """The definitions and types that the contract of `run` names, and those that the laws, the functions for C and the tools name."""
+    others = (CALLS_FOR_C, *TOOLS, *(f"{crate}/src/laws.rt" for crate in CRATES))
     return library.contracts(RUN), set().union(*(library.contracts(it) for it in others if library.find(it)))
 
 

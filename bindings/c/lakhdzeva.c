@@ -12,10 +12,11 @@
 
 /* ---- The proved functions, whose contracts are in crates/lakhdzeva/src/lib.rt. A text or a place without octets has a pointer, too. */
 
-uint32_t lakhdzeva_core_generate(const uint8_t *wanted, size_t wanted_length, const uint8_t *random, size_t random_length, uint8_t *key, size_t room,
-    size_t *length);
+uint32_t lakhdzeva_core_generate(const uint8_t *template_text, size_t template_length, const uint8_t *random, size_t random_length, uint8_t *key,
+    size_t room, size_t *length);
 uint32_t lakhdzeva_core_thumbprints(const uint8_t *keys, size_t keys_length, uint32_t bits, uint8_t *lines, size_t room, size_t *length);
-uint32_t lakhdzeva_core_sign(const uint8_t *keys, size_t keys_length, const uint8_t *wanted, size_t wanted_length, bool compact, bool detach,
+uint32_t lakhdzeva_core_judge_keys(const uint8_t *keys, size_t keys_length, uint8_t *uses, size_t room, size_t *length);
+uint32_t lakhdzeva_core_sign(const uint8_t *keys, size_t keys_length, const uint8_t *template_text, size_t template_length, bool compact, bool detach,
     const uint8_t *payload, size_t payload_length, uint8_t *object, size_t room, size_t *length);
 uint32_t lakhdzeva_core_verify(const uint8_t *keys, size_t keys_length, const uint8_t *object, size_t object_length, bool all, uint8_t *payload,
     size_t room, size_t *length);
@@ -27,8 +28,8 @@ uint32_t lakhdzeva_core_verify_all_detached(const uint8_t *keys, size_t keys_len
     const uint8_t *payload, size_t payload_length);
 uint32_t lakhdzeva_core_format_signed(const uint8_t *object, size_t object_length, bool given, const uint8_t *payload, size_t payload_length,
     bool compact, bool detach, uint8_t *text, size_t text_room, size_t *text_length, uint8_t *content, size_t content_room, size_t *content_length);
-uint32_t lakhdzeva_core_encrypt(const uint8_t *keys, size_t keys_length, const uint8_t *wanted, size_t wanted_length, bool compact, bool detach,
-    const uint8_t *random, size_t random_length, const uint8_t *plaintext, size_t plaintext_length, uint8_t *object, size_t object_room,
+uint32_t lakhdzeva_core_encrypt(const uint8_t *keys, size_t keys_length, const uint8_t *template_text, size_t template_length, bool compact,
+    bool detach, const uint8_t *random, size_t random_length, const uint8_t *plaintext, size_t plaintext_length, uint8_t *object, size_t object_room,
     size_t *object_length, uint8_t *ciphertext, size_t ciphertext_room, size_t *ciphertext_length);
 uint32_t lakhdzeva_core_decrypt(const uint8_t *keys, size_t keys_length, const uint8_t *object, size_t object_length, bool given,
     const uint8_t *ciphertext, size_t ciphertext_length, uint64_t most_iterations, uint8_t *plaintext, size_t room, size_t *length);
@@ -69,7 +70,7 @@ enum { FORMS = LAKHDZEVA_COMPACT | LAKHDZEVA_DETACH };
 /* The two arguments of the proved functions for a text, for a template and for a place. */
 static uint8_t nothing;
 #define TEXT(name) name ? (const uint8_t *)name : &nothing, name##_length
-#define TEMPLATE(name) name ? (const uint8_t *)name : (const uint8_t *)"{}", name ? name##_length : 2
+#define TEMPLATE template_text ? (const uint8_t *)template_text : (const uint8_t *)"{}", template_text ? template_length : 2
 #define PLACE(name) name ? (uint8_t *)name : &nothing
 #define FORM(flags) (flags & LAKHDZEVA_COMPACT) != 0, (flags & LAKHDZEVA_DETACH) != 0
 
@@ -114,7 +115,7 @@ void *lakhdzeva_wiped_realloc(void *old, size_t size) {
 /* The octets of the stack that the proved functions use at most, unless the JSON nests deep: what lies below is no secret. Those that format
    objects have no secrets. bindings/c/tests/wiped.c measures them. */
 enum {
-    GENERATE = 34 << 10, THUMBPRINTS = 26 << 10, SIGN = 42 << 10, VERIFY = 44 << 10, VERIFY_DETACHED = 36 << 10, ENCRYPT = 66 << 10, DECRYPT = 32 << 10
+    GENERATE = 34 << 10, THUMBPRINTS = 26 << 10, JUDGE_KEYS = 26 << 10, SIGN = 42 << 10, VERIFY = 42 << 10, VERIFY_DETACHED = 36 << 10, ENCRYPT = 66 << 10, DECRYPT = 32 << 10
 };
 
 /* Wipes so many octets of the stack below the caller, and returns the result. */
@@ -126,8 +127,9 @@ __attribute__((__noinline__)) static enum lakhdzeva_status wiped(uint32_t result
 
 /* ---- Rooms */
 
-/* The least octets of the text of a key: {"k":"AA","kty":"oct"}. One that signs has 32 octets or more, which are 43 characters. */
-enum { LEAST_KEY = 22, LEAST_SIGNING_KEY = 63 };
+/* The least octets of the text of a key: {"k":"AA","kty":"oct"}. One that signs has 32 octets or more, which are 43 characters. A bad member of
+   a set can be {}, behind a comma. */
+enum { LEAST_KEY = 22, LEAST_SIGNING_KEY = 63, LEAST_MEMBER = 3 };
 
 /* The most keys that a text of this length can have, if each takes at least so many octets, up to the limit of a set. */
 static size_t most_keys(size_t keys_length, size_t each) {
@@ -149,17 +151,21 @@ static size_t greater(size_t a, size_t b) {
     return a > b ? a : b;
 }
 
-size_t lakhdzeva_generate_room(size_t wanted_length) {
-    return sum(wanted_length, 5632);
+size_t lakhdzeva_generate_room(size_t template_length) {
+    return sum(template_length, 5632);
 }
 
 size_t lakhdzeva_thumbprints_room(size_t keys_length) {
     return 87 * most_keys(keys_length, LEAST_KEY);
 }
 
+size_t lakhdzeva_judge_keys_room(size_t keys_length) {
+    return most_keys(keys_length, LEAST_MEMBER);
+}
+
 /* Each signature has the headers of the template. */
-size_t lakhdzeva_sign_room(size_t keys_length, size_t wanted_length, size_t payload_length) {
-    size_t keys = most_keys(keys_length, LEAST_SIGNING_KEY), each = sum(base64(sum(wanted_length, 32)), 192);
+size_t lakhdzeva_sign_room(size_t keys_length, size_t template_length, size_t payload_length) {
+    size_t keys = most_keys(keys_length, LEAST_SIGNING_KEY), each = sum(base64(sum(template_length, 32)), 192);
     return each > SIZE_MAX / 64 ? SIZE_MAX : sum(base64(payload_length), keys * each);
 }
 
@@ -168,8 +174,8 @@ size_t lakhdzeva_verify_room(size_t object_length) {
 }
 
 /* The object has the headers of the template once, and 256 octets or less for a recipient. */
-size_t lakhdzeva_encrypt_room(size_t keys_length, size_t wanted_length, size_t plaintext_length) {
-    size_t keys = most_keys(keys_length, LEAST_KEY), headers = base64(sum(wanted_length, 192));
+size_t lakhdzeva_encrypt_room(size_t keys_length, size_t template_length, size_t plaintext_length) {
+    size_t keys = most_keys(keys_length, LEAST_KEY), headers = base64(sum(template_length, 192));
     return sum(base64(sum(plaintext_length, 16)), sum(headers, (keys + 2) * 256));
 }
 
@@ -207,18 +213,18 @@ const char *lakhdzeva_version(void) {
 
 typedef enum lakhdzeva_status status;
 
-status lakhdzeva_generate_with_random(const void *wanted, size_t wanted_length, const void *random, size_t random_length, void *key, size_t room,
-    size_t *length) {
-    if (!ARE_SOUND(2, {key, room}, {length, sizeof *length}, {wanted, wanted_length}, {random, random_length})) return LAKHDZEVA_USAGE;
-    return wiped(lakhdzeva_core_generate(TEMPLATE(wanted), TEXT(random), PLACE(key), room, length), GENERATE);
+status lakhdzeva_generate_with_random(const void *template_text, size_t template_length, const void *random, size_t random_length, void *key,
+    size_t room, size_t *length) {
+    if (!ARE_SOUND(2, {key, room}, {length, sizeof *length}, {template_text, template_length}, {random, random_length})) return LAKHDZEVA_USAGE;
+    return wiped(lakhdzeva_core_generate(TEMPLATE, TEXT(random), PLACE(key), room, length), GENERATE);
 }
 
-status lakhdzeva_generate(const void *wanted, size_t wanted_length, void *key, size_t room, size_t *length) {
+status lakhdzeva_generate(const void *template_text, size_t template_length, void *key, size_t room, size_t *length) {
     uint8_t random[4096];
     status status = LAKHDZEVA_RANDOM;
     /* An algorithm asks for at most 64 octets, and a template for at most 4,096. */
     for (size_t most = 64; most <= sizeof random && status == LAKHDZEVA_RANDOM; most *= 64) {
-        status = lakhdzeva_generate_with_random(wanted, wanted_length, random, draw(random, most), key, room, length);
+        status = lakhdzeva_generate_with_random(template_text, template_length, random, draw(random, most), key, room, length);
         wipe(random, most);
     }
     return status;
@@ -229,12 +235,17 @@ status lakhdzeva_thumbprints(const void *keys, size_t keys_length, unsigned bits
     return wiped(lakhdzeva_core_thumbprints(TEXT(keys), bits, PLACE(lines), room, length), THUMBPRINTS);
 }
 
-status lakhdzeva_sign(const void *keys, size_t keys_length, const void *wanted, size_t wanted_length, unsigned flags, const void *payload,
+status lakhdzeva_judge_keys(const void *keys, size_t keys_length, void *uses, size_t room, size_t *length) {
+    if (!ARE_SOUND(2, {uses, room}, {length, sizeof *length}, {keys, keys_length})) return LAKHDZEVA_USAGE;
+    return wiped(lakhdzeva_core_judge_keys(TEXT(keys), PLACE(uses), room, length), JUDGE_KEYS);
+}
+
+status lakhdzeva_sign(const void *keys, size_t keys_length, const void *template_text, size_t template_length, unsigned flags, const void *payload,
     size_t payload_length, void *object, size_t room, size_t *length) {
-    if (!ARE_SOUND(2, {object, room}, {length, sizeof *length}, {keys, keys_length}, {wanted, wanted_length}, {payload, payload_length})
+    if (!ARE_SOUND(2, {object, room}, {length, sizeof *length}, {keys, keys_length}, {template_text, template_length}, {payload, payload_length})
         || !are_among(flags, FORMS))
         return LAKHDZEVA_USAGE;
-    return wiped(lakhdzeva_core_sign(TEXT(keys), TEMPLATE(wanted), FORM(flags), TEXT(payload), PLACE(object), room, length), SIGN);
+    return wiped(lakhdzeva_core_sign(TEXT(keys), TEMPLATE, FORM(flags), TEXT(payload), PLACE(object), room, length), SIGN);
 }
 
 status lakhdzeva_verify(const void *keys, size_t keys_length, const void *object, size_t object_length, unsigned flags, void *payload, size_t room,
@@ -263,25 +274,25 @@ status lakhdzeva_verify_all_detached(const void *keys, size_t keys_length, size_
     return wiped(lakhdzeva_core_verify_all_detached(TEXT(keys), signers, TEXT(object), TEXT(payload)), VERIFY_DETACHED);
 }
 
-status lakhdzeva_encrypt_with_random(const void *keys, size_t keys_length, const void *wanted, size_t wanted_length, unsigned flags,
+status lakhdzeva_encrypt_with_random(const void *keys, size_t keys_length, const void *template_text, size_t template_length, unsigned flags,
     const void *random, size_t random_length, const void *plaintext, size_t plaintext_length, void *object, size_t object_room,
     size_t *object_length, void *ciphertext, size_t ciphertext_room, size_t *ciphertext_length) {
     size_t unwanted = 0, *beside = ciphertext_length ? ciphertext_length : &unwanted;
     if (!ARE_SOUND(4, {object, object_room}, {object_length, sizeof *object_length}, {ciphertext, ciphertext_room}, {beside, sizeof *beside},
-            {keys, keys_length}, {wanted, wanted_length}, {random, random_length}, {plaintext, plaintext_length})
+            {keys, keys_length}, {template_text, template_length}, {random, random_length}, {plaintext, plaintext_length})
         || !are_among(flags, FORMS) || (flags & LAKHDZEVA_DETACH && !ciphertext_length))
         return LAKHDZEVA_USAGE;
-    return wiped(lakhdzeva_core_encrypt(TEXT(keys), TEMPLATE(wanted), FORM(flags), TEXT(random), TEXT(plaintext), PLACE(object), object_room, object_length,
+    return wiped(lakhdzeva_core_encrypt(TEXT(keys), TEMPLATE, FORM(flags), TEXT(random), TEXT(plaintext), PLACE(object), object_room, object_length,
         PLACE(ciphertext), ciphertext_room, beside), ENCRYPT);
 }
 
-status lakhdzeva_encrypt(const void *keys, size_t keys_length, const void *wanted, size_t wanted_length, unsigned flags, const void *plaintext,
-    size_t plaintext_length, void *object, size_t object_room, size_t *object_length, void *ciphertext, size_t ciphertext_room,
+status lakhdzeva_encrypt(const void *keys, size_t keys_length, const void *template_text, size_t template_length, unsigned flags,
+    const void *plaintext, size_t plaintext_length, void *object, size_t object_room, size_t *object_length, void *ciphertext, size_t ciphertext_room,
     size_t *ciphertext_length) {
     /* A content encryption key has at most 64 octets, an initialization vector 16, and a recipient draws at most 16. */
     uint8_t random[80 + 16 * 64];
     size_t most = 80 + 16 * most_keys(keys_length, LEAST_KEY);
-    status status = lakhdzeva_encrypt_with_random(keys, keys_length, wanted, wanted_length, flags, random, draw(random, most), plaintext,
+    status status = lakhdzeva_encrypt_with_random(keys, keys_length, template_text, template_length, flags, random, draw(random, most), plaintext,
         plaintext_length, object, object_room, object_length, ciphertext, ciphertext_room, ciphertext_length);
     wipe(random, most);
     return status;

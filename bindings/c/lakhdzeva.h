@@ -6,11 +6,11 @@
    ---- Arguments
 
    Each text is a pointer and a length in octets. Texts need no NUL at their end. NULL with length 0 is an empty text, with two exceptions: for
-   `wanted` it is {}, and for a content that may be handed in to `decrypt` and `format` it says that none is. An empty content that is handed
+   `template_text` it is {}, and for a content that may be handed in to `decrypt` and `format` it says that none is. An empty content that is handed
    in has a pointer that is not NULL.
    - keys: the JSON text of one key, or of a set. To sign and to encrypt, every key of a set must be good, and each is used. To verify and
      to decrypt, bad keys of a set are passed over.
-   - wanted: the JSON template that says what is wanted: headers for a token, members for a key. {} lets the keys decide.
+   - template_text: the JSON template: headers for a token, members for a key. {} lets the keys decide.
    - flags: LAKHDZEVA_COMPACT, LAKHDZEVA_DETACH and LAKHDZEVA_ALL, or 0.
    - an answer goes to a place: a pointer, the octets that fit there, and a pointer to a length.
 
@@ -91,6 +91,14 @@ enum lakhdzeva_flags {
     LAKHDZEVA_ALL = 4      /* each good key must verify, and otherwise one. It does not count signers: lakhdzeva_verify_all does */
 };
 
+enum lakhdzeva_uses {
+    LAKHDZEVA_MAY_SIGN = 1,
+    LAKHDZEVA_MAY_VERIFY = 2,
+    LAKHDZEVA_MAY_ENCRYPT = 4,
+    LAKHDZEVA_MAY_DECRYPT = 8,
+    LAKHDZEVA_GOOD = 16
+};
+
 /* The name of a result, such as "NotOpened". */
 const char *lakhdzeva_name(uint32_t status) LAKHDZEVA_TEXT_;
 
@@ -100,15 +108,15 @@ const char *lakhdzeva_version(void) LAKHDZEVA_TEXT_;
 /* ---- Keys */
 
 /* A room that always suffices for a key by this template. */
-size_t lakhdzeva_generate_room(size_t wanted_length) LAKHDZEVA_ROOM_;
+size_t lakhdzeva_generate_room(size_t template_length) LAKHDZEVA_ROOM_;
 
 /* Makes a key from random octets that are handed in. Two keys from the same octets are equal: this is for tests. The rest is as for
    lakhdzeva_generate. */
-enum lakhdzeva_status lakhdzeva_generate_with_random(const void *wanted, size_t wanted_length, const void *random, size_t random_length, void *key,
-    size_t room, size_t *length) LAKHDZEVA_STATUS_;
+enum lakhdzeva_status lakhdzeva_generate_with_random(const void *template_text, size_t template_length, const void *random, size_t random_length,
+    void *key, size_t room, size_t *length) LAKHDZEVA_STATUS_;
 
 /* Makes a key as the template asks, for example {"alg":"HS256"} or {"alg":"A256GCM","kid":"7"}. The answer is its JSON text. */
-enum lakhdzeva_status lakhdzeva_generate(const void *wanted, size_t wanted_length, void *key, size_t room, size_t *length) LAKHDZEVA_STATUS_;
+enum lakhdzeva_status lakhdzeva_generate(const void *template_text, size_t template_length, void *key, size_t room, size_t *length) LAKHDZEVA_STATUS_;
 
 /* A room that always suffices for the thumbprints of the keys of a text. */
 size_t lakhdzeva_thumbprints_room(size_t keys_length) LAKHDZEVA_ROOM_;
@@ -118,14 +126,25 @@ size_t lakhdzeva_thumbprints_room(size_t keys_length) LAKHDZEVA_ROOM_;
 enum lakhdzeva_status lakhdzeva_thumbprints(const void *keys, size_t keys_length, unsigned bits, void *lines, size_t room, size_t *length)
     LAKHDZEVA_STATUS_;
 
+/* A room that always suffices for what the members of a set may do. */
+size_t lakhdzeva_judge_keys_room(size_t keys_length) LAKHDZEVA_ROOM_;
+
+/* Says what each member of a text of keys may do, in order: one octet for each member of a set, and one for a key that is alone. It is 0 for a bad
+   key, and otherwise the sum of LAKHDZEVA_GOOD and of the other enum lakhdzeva_uses that hold. A service calls it once, when it reads its keys: then
+   keys that may do nothing, or other things than they are for, are seen before the first object comes. It is refused as the keys are refused by
+   lakhdzeva_verify.
+   - A key may do something if it may by some algorithm. Whether it fits an object shows when that comes.
+   - Whoever has a key can do with it what it may not do: `use` and `key_ops` are rules for this library and others like it. */
+enum lakhdzeva_status lakhdzeva_judge_keys(const void *keys, size_t keys_length, void *uses, size_t room, size_t *length) LAKHDZEVA_STATUS_;
+
 /* ---- Signed objects */
 
 /* A room that always suffices for a signed object. Each signature has the headers of the template. */
-size_t lakhdzeva_sign_room(size_t keys_length, size_t wanted_length, size_t payload_length) LAKHDZEVA_ROOM_;
+size_t lakhdzeva_sign_room(size_t keys_length, size_t template_length, size_t payload_length) LAKHDZEVA_ROOM_;
 
 /* Signs the payload with each of the keys. Flags: LAKHDZEVA_COMPACT, LAKHDZEVA_DETACH. The payload is in the object as it is, and not secret. In
    the template `protected` is signed, and `header` is a header that is not signed. */
-enum lakhdzeva_status lakhdzeva_sign(const void *keys, size_t keys_length, const void *wanted, size_t wanted_length, unsigned flags,
+enum lakhdzeva_status lakhdzeva_sign(const void *keys, size_t keys_length, const void *template_text, size_t template_length, unsigned flags,
     const void *payload, size_t payload_length, void *object, size_t room, size_t *length) LAKHDZEVA_STATUS_;
 
 /* A room that always suffices for the payload of an object. */
@@ -165,15 +184,15 @@ enum lakhdzeva_status lakhdzeva_verify_all_detached(const void *keys, size_t key
 /* ---- Encrypted objects */
 
 /* A room that always suffices for an encrypted object. It has the headers of the template once, and 256 octets or less for a recipient. */
-size_t lakhdzeva_encrypt_room(size_t keys_length, size_t wanted_length, size_t plaintext_length) LAKHDZEVA_ROOM_;
+size_t lakhdzeva_encrypt_room(size_t keys_length, size_t template_length, size_t plaintext_length) LAKHDZEVA_ROOM_;
 
 /* A room that always suffices for a detached ciphertext. */
 size_t lakhdzeva_ciphertext_room(size_t plaintext_length) LAKHDZEVA_ROOM_;
 
 /* Encrypts with random octets that are handed in: for tests. Two objects with the same octets reveal each other's secrets. The rest is as for
    lakhdzeva_encrypt. */
-enum lakhdzeva_status lakhdzeva_encrypt_with_random(const void *keys, size_t keys_length, const void *wanted, size_t wanted_length, unsigned flags,
-    const void *random, size_t random_length, const void *plaintext, size_t plaintext_length, void *object, size_t object_room, size_t *object_length,
+enum lakhdzeva_status lakhdzeva_encrypt_with_random(const void *keys, size_t keys_length, const void *template_text, size_t template_length,
+    unsigned flags, const void *random, size_t random_length, const void *plaintext, size_t plaintext_length, void *object, size_t object_room, size_t *object_length,
     void *ciphertext, size_t ciphertext_room, size_t *ciphertext_length) LAKHDZEVA_STATUS_;
 
 /* Encrypts the plaintext to each of the keys. Flags: LAKHDZEVA_COMPACT, LAKHDZEVA_DETACH. With LAKHDZEVA_DETACH the ciphertext goes to its own
@@ -184,7 +203,7 @@ enum lakhdzeva_status lakhdzeva_encrypt_with_random(const void *keys, size_t key
    - A password takes 100,000 iterations, or `p2c` of the template: name 600,000 there for one password.
    - Use a key for at most 2^32 objects with AES-GCM key wrap, or with `dir` and a GCM.
    - In the template `unprotected` is a header that is not authenticated, and `aad` is a text that everyone can read. */
-enum lakhdzeva_status lakhdzeva_encrypt(const void *keys, size_t keys_length, const void *wanted, size_t wanted_length, unsigned flags,
+enum lakhdzeva_status lakhdzeva_encrypt(const void *keys, size_t keys_length, const void *template_text, size_t template_length, unsigned flags,
     const void *plaintext, size_t plaintext_length, void *object, size_t object_room, size_t *object_length, void *ciphertext, size_t ciphertext_room,
     size_t *ciphertext_length) LAKHDZEVA_STATUS_;
 

@@ -11,37 +11,35 @@ import (
 // Keys is one key or a set of keys that was judged when it was read: in each error of its methods that is not a Fault, the token is at fault,
 // or what is signed or encrypted. Any number of goroutines may use it at once.
 //
-// Some things are not judged:
-//   - Bad keys of a set are passed over. Len is the number of the good ones: compare it with the number that you expect.
-//   - Whether a key may sign, encrypt or decrypt shows at the first call. CanVerify says whether one of them may verify signatures.
+// A service asks two things when it starts:
+//   - Bad keys of a set are passed over. Len is the number of the good ones: compare it with the number that you expect. Uses says which are
+//     bad, and what each of the others may do.
+//   - CanSign, CanVerify, CanEncrypt and CanDecrypt say whether one of them may. To sign and to encrypt, all of them must.
 //
 // What fmt prints of it has no secret and no thumbprint.
 type Keys struct {
 	text        []byte
+	uses        []KeyUses
 	thumbprints []string
-	canVerify   bool
 }
 
-// Objects that nobody signed, one for each algorithm, with a signature of its length. If a key may verify the algorithm, they are ErrNotOpened.
-var forged = []string{
-	"eyJhbGciOiJIUzI1NiJ9.." + strings.Repeat("A", 43),
-	"eyJhbGciOiJIUzM4NCJ9.." + strings.Repeat("A", 64),
-	"eyJhbGciOiJIUzUxMiJ9.." + strings.Repeat("A", 86),
+// KeyUses says whether a member of a text of keys is a valid key, and what it may do by some algorithm.
+type KeyUses struct {
+	Good, Sign, Verify, Encrypt, Decrypt bool
 }
 
 // NewKeys reads the JSON text of a key or of a set. A text without a valid key is refused.
 func NewKeys(text []byte) (*Keys, error) {
 	text = append([]byte(nil), text...)
+	uses, err := JudgeKeys(text)
+	if err != nil {
+		return nil, err
+	}
 	lines, err := Thumbprints(text, SHA256)
 	if err != nil {
 		return nil, err
 	}
-	keys := &Keys{text: text, thumbprints: strings.Split(lines, "\n")}
-	for _, object := range forged {
-		_, err := Verify(text, []byte(object), One)
-		keys.canVerify = keys.canVerify || err == ErrNotOpened
-	}
-	return keys, nil
+	return &Keys{text: text, uses: uses, thumbprints: strings.Split(lines, "\n")}, nil
 }
 
 // ReadKeys reads the JSON text of a key or of a set from a file.
@@ -68,15 +66,9 @@ func KeysFromSecret(secret []byte, alg string) (*Keys, error) {
 	if err != nil {
 		return nil, err
 	}
-	// What may sign or encrypt nothing is refused here. A password may have any length.
-	switch {
-	case strings.HasPrefix(alg, "HS"):
-		_, err = keys.Sign(nil, Compact, nil)
-	case !strings.HasPrefix(alg, "PBES2"):
-		_, err = keys.Encrypt(nil, Compact, nil)
-	}
-	if err != nil {
-		return nil, err
+	// What may do nothing is refused here. A password may have any length.
+	if !keys.CanSign() && !keys.CanEncrypt() {
+		return nil, ErrKeyDoesNotFit
 	}
 	return keys, nil
 }
@@ -86,9 +78,38 @@ func (keys *Keys) Len() int {
 	return len(keys.thumbprints)
 }
 
+// Uses returns what each member of the text may do, in order, with the bad ones.
+func (keys *Keys) Uses() []KeyUses {
+	return append([]KeyUses(nil), keys.uses...)
+}
+
+func (keys *Keys) some(may func(KeyUses) bool) bool {
+	for _, uses := range keys.uses {
+		if may(uses) {
+			return true
+		}
+	}
+	return false
+}
+
+// CanSign says whether one of the keys may sign by some algorithm.
+func (keys *Keys) CanSign() bool {
+	return keys.some(func(uses KeyUses) bool { return uses.Sign })
+}
+
 // CanVerify says whether one of the keys may verify signatures. A service that verifies tokens asks this when it starts.
 func (keys *Keys) CanVerify() bool {
-	return keys.canVerify
+	return keys.some(func(uses KeyUses) bool { return uses.Verify })
+}
+
+// CanEncrypt says whether one of the keys may encrypt by some algorithms.
+func (keys *Keys) CanEncrypt() bool {
+	return keys.some(func(uses KeyUses) bool { return uses.Encrypt })
+}
+
+// CanDecrypt says whether one of the keys may decrypt by some algorithms.
+func (keys *Keys) CanDecrypt() bool {
+	return keys.some(func(uses KeyUses) bool { return uses.Decrypt })
 }
 
 // Thumbprints returns the thumbprints of the valid keys by SHA-256, in their order. That of a password is not safe to publish: it lets anyone
@@ -108,13 +129,13 @@ func (keys Keys) Format(state fmt.State, _ rune) {
 }
 
 // Sign is the function Sign with these keys.
-func (keys *Keys) Sign(wanted []byte, form Form, payload []byte) ([]byte, error) {
-	return Sign(keys.text, wanted, form, payload)
+func (keys *Keys) Sign(template []byte, form Form, payload []byte) ([]byte, error) {
+	return Sign(keys.text, template, form, payload)
 }
 
 // SignDetached is the function SignDetached with these keys.
-func (keys *Keys) SignDetached(wanted []byte, form Form, payload []byte) ([]byte, error) {
-	return SignDetached(keys.text, wanted, form, payload)
+func (keys *Keys) SignDetached(template []byte, form Form, payload []byte) ([]byte, error) {
+	return SignDetached(keys.text, template, form, payload)
 }
 
 // Verify is the function Verify with these keys, one of which must have signed the object.
@@ -138,13 +159,13 @@ func (keys *Keys) VerifyAllDetached(signers int, object, payload []byte) error {
 }
 
 // Encrypt is the function Encrypt with these keys.
-func (keys *Keys) Encrypt(wanted []byte, form Form, plaintext []byte) ([]byte, error) {
-	return Encrypt(keys.text, wanted, form, plaintext)
+func (keys *Keys) Encrypt(template []byte, form Form, plaintext []byte) ([]byte, error) {
+	return Encrypt(keys.text, template, form, plaintext)
 }
 
 // EncryptDetached is the function EncryptDetached with these keys.
-func (keys *Keys) EncryptDetached(wanted []byte, form Form, plaintext []byte) (object, ciphertext []byte, err error) {
-	return EncryptDetached(keys.text, wanted, form, plaintext)
+func (keys *Keys) EncryptDetached(template []byte, form Form, plaintext []byte) (object, ciphertext []byte, err error) {
+	return EncryptDetached(keys.text, template, form, plaintext)
 }
 
 // Decrypt is the function Decrypt with these keys.

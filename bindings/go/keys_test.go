@@ -106,6 +106,33 @@ func TestWhatKeysCannotVerify(t *testing.T) {
 	}
 }
 
+func TestWhatEachKeyMayDo(t *testing.T) {
+	wrapping := strings.Replace(hs256Key, "{", `{"key_ops":["wrapKey"],`, 1)
+	for text, uses := range map[string]string{
+		hs256Key: "sv",
+		strings.Replace(hs256Key, "HS256", "A256KW", 1):                         "ed",
+		strings.Replace(hs256Key, `"alg":"HS256",`, `"key_ops":["verify"],`, 1): "v",
+		strings.Replace(wrapping, "HS256", "A256KW", 1):                         "e",
+		wrapping: "",
+	} {
+		may := func(use string) bool { return strings.Contains(uses, use) }
+		want := KeyUses{Good: true, Sign: may("s"), Verify: may("v"), Encrypt: may("e"), Decrypt: may("d")}
+		keys := keysOf(t, `{"keys":[{"kty":"RSA"},`+text+`]}`)
+		if got := keys.Uses(); len(got) != 2 || got[0] != (KeyUses{}) || got[1] != want {
+			t.Errorf("%s: got %v, want %v", text, got, want)
+		}
+		can := KeyUses{Good: true, Sign: keys.CanSign(), Verify: keys.CanVerify(), Encrypt: keys.CanEncrypt(), Decrypt: keys.CanDecrypt()}
+		if can != want {
+			t.Errorf("%s: got %v, want %v", text, can, want)
+		}
+	}
+	for text, want := range map[string]error{"{": ErrJSON, `{"keys":[{}]}`: ErrKey} {
+		if _, err := JudgeKeys([]byte(text)); !errors.Is(err, want) {
+			t.Errorf("%s: got %v", text, err)
+		}
+	}
+}
+
 // With keys that were judged, no bad token is a fault of this side.
 func TestBadTokensAreNoFault(t *testing.T) {
 	keys := keysOf(t, hs256Key)

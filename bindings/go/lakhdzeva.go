@@ -8,7 +8,7 @@
 //
 // The arguments:
 //   - keys is the JSON text of one key, or of a set.
-//   - wanted is a JSON template: the headers of a token, or the members of a key. If it is nil, the keys decide.
+//   - template is a JSON template: the headers of a token, or the members of a key. If it is nil, the keys decide.
 //   - form is the serialization of an object that is written.
 //
 // An error is a [Refusal], such as [ErrNotOpened], for errors.Is and errors.As.
@@ -123,12 +123,12 @@ func some(octets []byte) []byte {
 	return octets
 }
 
-// template returns the wanted template, or {} if it is nil.
-func template(wanted []byte) []byte {
-	if wanted == nil {
+// orEmpty returns the template, or {} if it is nil.
+func orEmpty(template []byte) []byte {
+	if template == nil {
 		return []byte("{}")
 	}
-	return wanted
+	return template
 }
 
 func size(octets []byte) C.size_t {
@@ -176,11 +176,11 @@ func compact(form Form) (C.uint, bool) {
 }
 
 // Generate makes a random key as the template asks, for example {"alg":"HS256"}, and returns its JSON text.
-func Generate(wanted []byte) ([]byte, error) {
-	wanted = template(wanted)
-	return answer(C.lakhdzeva_generate_room(size(wanted)), func(key []byte, length *C.size_t) uint32 {
+func Generate(template []byte) ([]byte, error) {
+	template = orEmpty(template)
+	return answer(C.lakhdzeva_generate_room(size(template)), func(key []byte, length *C.size_t) uint32 {
 		return uint32(C.lakhdzeva_generate(
-			unsafe.Pointer(&some(wanted)[0]), size(wanted),
+			unsafe.Pointer(&some(template)[0]), size(template),
 			unsafe.Pointer(&some(key)[0]), size(key), length))
 	})
 }
@@ -196,33 +196,56 @@ func Thumbprints(keys []byte, hash Hash) (string, error) {
 	return string(lines), err
 }
 
+// JudgeKeys returns what each member of a text of keys may do, in order: each member of a set, or the key that is alone.
+//   - A key may do something if it may by some algorithm. Whether it fits an object shows when that comes.
+//   - Whoever has a key can do with it what it may not do: `use` and `key_ops` are rules for this library and others like it.
+func JudgeKeys(keys []byte) ([]KeyUses, error) {
+	numbers, err := answer(C.lakhdzeva_judge_keys_room(size(keys)), func(uses []byte, length *C.size_t) uint32 {
+		return uint32(C.lakhdzeva_judge_keys(
+			unsafe.Pointer(&some(keys)[0]), size(keys),
+			unsafe.Pointer(&some(uses)[0]), size(uses), length))
+	})
+	if err != nil {
+		return nil, err
+	}
+	judged := make([]KeyUses, len(numbers))
+	for at, number := range numbers {
+		may := func(use byte) bool { return number&use != 0 }
+		judged[at] = KeyUses{
+			Good: may(C.LAKHDZEVA_GOOD), Sign: may(C.LAKHDZEVA_MAY_SIGN), Verify: may(C.LAKHDZEVA_MAY_VERIFY),
+			Encrypt: may(C.LAKHDZEVA_MAY_ENCRYPT), Decrypt: may(C.LAKHDZEVA_MAY_DECRYPT),
+		}
+	}
+	return judged, nil
+}
+
 // Sign signs the payload with each of the keys, and returns the object. The payload is in the object as it is, and not secret. In the
 // template `protected` is signed, and `header` is a header that is not signed.
-func Sign(keys, wanted []byte, form Form, payload []byte) ([]byte, error) {
-	return sign(keys, wanted, form, 0, payload)
+func Sign(keys, template []byte, form Form, payload []byte) ([]byte, error) {
+	return sign(keys, template, form, 0, payload)
 }
 
 // SignDetached signs the payload with each of the keys, and returns the object without the payload (RFC 7515, appendix F). The rest is as for
 // Sign.
-func SignDetached(keys, wanted []byte, form Form, payload []byte) ([]byte, error) {
-	return sign(keys, wanted, form, C.LAKHDZEVA_DETACH, payload)
+func SignDetached(keys, template []byte, form Form, payload []byte) ([]byte, error) {
+	return sign(keys, template, form, C.LAKHDZEVA_DETACH, payload)
 }
 
-func sign(keys, wanted []byte, form Form, detach C.uint, payload []byte) ([]byte, error) {
+func sign(keys, template []byte, form Form, detach C.uint, payload []byte) ([]byte, error) {
 	flags, known := compact(form)
 	if !known {
 		return nil, ErrUsage
 	}
-	wanted = template(wanted)
+	template = orEmpty(template)
 	inside := size(payload)
 	if detach != 0 {
 		inside = 0
 	}
-	room := C.lakhdzeva_sign_room(size(keys), size(wanted), inside)
+	room := C.lakhdzeva_sign_room(size(keys), size(template), inside)
 	return answer(room, func(object []byte, length *C.size_t) uint32 {
 		return uint32(C.lakhdzeva_sign(
 			unsafe.Pointer(&some(keys)[0]), size(keys),
-			unsafe.Pointer(&some(wanted)[0]), size(wanted), flags|detach,
+			unsafe.Pointer(&some(template)[0]), size(template), flags|detach,
 			unsafe.Pointer(&some(payload)[0]), size(payload),
 			unsafe.Pointer(&some(object)[0]), size(object), length))
 	})
@@ -291,32 +314,32 @@ func VerifyAllDetached(keys []byte, signers int, object, payload []byte) error {
 //   - A password takes 100,000 iterations, or `p2c` of the template: name 600,000 there for one password.
 //   - Use a key for at most 2^32 objects with AES-GCM key wrap, or with `dir` and a GCM.
 //   - In the template `unprotected` is a header that is not authenticated, and `aad` is a text that everyone can read.
-func Encrypt(keys, wanted []byte, form Form, plaintext []byte) ([]byte, error) {
-	object, _, err := encrypt(keys, wanted, form, 0, plaintext)
+func Encrypt(keys, template []byte, form Form, plaintext []byte) ([]byte, error) {
+	object, _, err := encrypt(keys, template, form, 0, plaintext)
 	return object, err
 }
 
 // EncryptDetached encrypts the plaintext to each of the keys, and returns the object without its ciphertext, and the ciphertext. The rest is as
 // for Encrypt.
-func EncryptDetached(keys, wanted []byte, form Form, plaintext []byte) (object, ciphertext []byte, err error) {
-	return encrypt(keys, wanted, form, C.LAKHDZEVA_DETACH, plaintext)
+func EncryptDetached(keys, template []byte, form Form, plaintext []byte) (object, ciphertext []byte, err error) {
+	return encrypt(keys, template, form, C.LAKHDZEVA_DETACH, plaintext)
 }
 
-func encrypt(keys, wanted []byte, form Form, detach C.uint, plaintext []byte) ([]byte, []byte, error) {
+func encrypt(keys, template []byte, form Form, detach C.uint, plaintext []byte) ([]byte, []byte, error) {
 	flags, known := compact(form)
 	if !known {
 		return nil, nil, ErrUsage
 	}
-	wanted = template(wanted)
+	template = orEmpty(template)
 	roomInside, roomBeside := size(plaintext), C.size_t(0)
 	if detach != 0 {
 		roomInside, roomBeside = 0, C.lakhdzeva_ciphertext_room(size(plaintext))
 	}
-	room := C.lakhdzeva_encrypt_room(size(keys), size(wanted), roomInside)
+	room := C.lakhdzeva_encrypt_room(size(keys), size(template), roomInside)
 	return answers(room, roomBeside, func(object, ciphertext []byte, length, lengthBeside *C.size_t) uint32 {
 		return uint32(C.lakhdzeva_encrypt(
 			unsafe.Pointer(&some(keys)[0]), size(keys),
-			unsafe.Pointer(&some(wanted)[0]), size(wanted), flags|detach,
+			unsafe.Pointer(&some(template)[0]), size(template), flags|detach,
 			unsafe.Pointer(&some(plaintext)[0]), size(plaintext),
 			unsafe.Pointer(&some(object)[0]), size(object), length,
 			unsafe.Pointer(&some(ciphertext)[0]), size(ciphertext), lengthBeside))

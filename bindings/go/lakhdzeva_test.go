@@ -84,12 +84,12 @@ func TestWhatIsWrittenIsRead(t *testing.T) {
 }
 
 func TestKeysAreMade(t *testing.T) {
-	for _, wanted := range []string{`{"alg":"HS256"}`, `{"bytes":4096}`} {
-		one, err := Generate([]byte(wanted))
+	for _, template := range []string{`{"alg":"HS256"}`, `{"bytes":4096}`} {
+		one, err := Generate([]byte(template))
 		if err != nil {
 			t.Fatal(err)
 		}
-		other, err := Generate([]byte(wanted))
+		other, err := Generate([]byte(template))
 		if err != nil {
 			t.Fatal(err)
 		}

@@ -40,40 +40,25 @@ static struct stat seen;
 static struct keys keys;
 static pthread_mutex_t lock = PTHREAD_MUTEX_INITIALIZER;
 
-/* Tokens that nobody signed, one for each algorithm, with the length of its signature. If a key may verify the algorithm, they are not opened. */
-static bool can_verify(const struct keys *found) {
-    static const struct {
-        const char *header;
-        size_t length;
-    } forged[] = {{"eyJhbGciOiJIUzI1NiJ9..", 43}, {"eyJhbGciOiJIUzM4NCJ9..", 64}, {"eyJhbGciOiJIUzUxMiJ9..", 86}};
-    for (size_t i = 0; i < 3; i++) {
-        char token[128], payload[128];
-        size_t header = strlen(forged[i].header), length = 0;
-        memcpy(token, forged[i].header, header);
-        memset(token + header, 'A', forged[i].length);
-        if (lakhdzeva_verify(found->text, found->length, token, header + forged[i].length, 0, payload, sizeof payload, &length) == LAKHDZEVA_NOT_OPENED)
-            return true;
-    }
-    return false;
-}
-
 /* Reads the text of keys, and judges it. Returns what is wrong, or NULL. */
 static const char *read_keys(struct keys *found) {
     FILE *file = fopen(key_file, "rb");
-    char lines[87 * 64];
-    size_t length = 0;
+    unsigned char uses[64];
+    size_t members = 0;
+    bool can_verify = false;
     if (!file) return "it cannot be read";
     found->text = malloc(MOST_KEYS);
     found->length = found->text ? fread(found->text, 1, MOST_KEYS, file) : 0;
     bool whole = found->text && feof(file) && !ferror(file);
     fclose(file);
     if (!whole) return "it cannot be read, or is too long";
-    enum lakhdzeva_status status = lakhdzeva_thumbprints(found->text, found->length, 256, lines, sizeof lines, &length);
+    enum lakhdzeva_status status = lakhdzeva_judge_keys(found->text, found->length, uses, sizeof uses, &members);
     if (status) return lakhdzeva_name(status);
-    if (!can_verify(found)) return "no key in it may verify a signature";
-    found->count = 1;
-    for (size_t i = 0; i < length; i++) found->count += lines[i] == '\n';
-    return NULL;
+    for (size_t i = 0; i < members; i++) {
+        found->count += uses[i] != 0;
+        can_verify = can_verify || uses[i] & LAKHDZEVA_MAY_VERIFY;
+    }
+    return can_verify ? NULL : "no key in it may verify a signature";
 }
 
 static void forget(struct keys *old) {

@@ -37,6 +37,7 @@ static uint32_t call(const char *name) {
     IS(lakhdzeva_generate, T(0), P(0));
     IS(lakhdzeva_generate_with_random, T(0), T(1), P(0));
     IS(lakhdzeva_thumbprints, T(0), number, P(0));
+    IS(lakhdzeva_judge_keys, T(0), P(0));
     IS(lakhdzeva_sign, T(0), T(1), number, T(2), P(0));
     IS(lakhdzeva_verify, T(0), T(1), number, P(0));
     IS(lakhdzeva_verify_detached, T(0), T(1), number, T(2));

@@ -74,7 +74,7 @@ OTHERS = [
 # The places of limits in the code of lakhdzeva.c. A first draw of 64 octets suffices for each algorithm.
 CODE = {
     SOURCE: [
-        "return keys < {MOST_KEYS} ? keys : {MOST_KEYS};", "return each > SIZE_MAX / {MOST_KEYS} ?", "return sum(wanted_length, {KEY_ROOM});",
+        "return keys < {MOST_KEYS} ? keys : {MOST_KEYS};", "return each > SIZE_MAX / {MOST_KEYS} ?", "return sum(template_length, {KEY_ROOM});",
         "uint8_t random[{MOST_KEY_OCTETS}];", "most = 64; most <= sizeof random && status == LAKHDZEVA_RANDOM; most *= {DRAWS})",
         "uint8_t random[80 + 16 * {MOST_KEYS}];",
     ],

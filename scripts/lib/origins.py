@@ -64,10 +64,14 @@ PLACES = [
     ("keys/src/strict_json.rt", "read_value", "match Value::from_slice(alloc, octets) { Ok(value) => Ok(value), "
      "Err(error) if error.is_memory() => Err(Refusal::Memory),", "serde_json's error for memory"),
     ("keys/src/set.rt", "read_keys", "match read_key(alloc, value) { Ok(key) => keys.push(key)?, Err(Refusal::Memory) => return Err(Refusal::Memory),", "passed on"),
+    ("keys/src/set.rt", "members_of", "match read_key(alloc, value) { Ok(key) => members.push(Some(key))?, Err(Refusal::Memory) => return Err(Refusal::Memory),", "passed on"),
     ("jose/src/words/options.rt", "refusal_for", "fn refusal_for(error: &Error) -> Refusal { if error.kind() == ErrorKind::OutOfMemory { Refusal::Memory }",
      "clap's error for memory"),
     ("jose/src/lib.rt", "placeholder", "match system.open(folder) { Ok(folder) => return Ok(if_standard(folder)), "
      "Err(e) if e.kind() == io::ErrorKind::OutOfMemory => return Err(Refusal::Memory),", "std's error for memory"),
+
+    ("tools/src/verifying.rt", "good_keys", "match KeySet::read(alloc, keys, true) { Ok(set) => Ok(set), Err(Refusal::Memory) => Err(Cause::Refused(Refusal::Memory)),", "passed on"),
+    ("tools/src/verifying.rt", "needs_so_many", "match needs_signers(alloc, set, number) { Ok(()) => Ok(()), Err(Refusal::Memory) => Err(Cause::Refused(Refusal::Memory)),", "passed on"),
 
     # A parameter that cannot be read is left to the recipients that need it, except for memory.
     ("objects/src/header/shared.rt", "octets_if_read", "Err(Refusal::Memory) => Err(Refusal::Memory),", "the error for memory of the reading"),
@@ -136,8 +140,11 @@ PLACES = [
      "memory that was refused; a write of nothing"),
     ("lakhdzeva/src/growing.rt", "GrowingOutput::finish", "self.is_finished = true; self.endings = self.endings.saturating_add(1); Ok(())", "it never fails"),
     ("lakhdzeva/src/places.rt", "deliver", "if octets.len() > place.len() { return number(Refusal::Write); }", "a place that is too small"),
+    ("lakhdzeva/src/places.rt", "deliver_payload", "if payload.len() > place.len() { return number(Refusal::Write); }", "a place that is too small"),
     ("lakhdzeva/src/places.rt", "deliver_both", "if both.text.len() > text.len() || both.content.len() > content.len() { return number(Refusal::Write); }",
      "a place that is too small"),
+    ("lakhdzeva/src/answers.rt", "good_number", "let mut number = 16; if uses.sign { number += 1; } if uses.verify { number += 2; } if uses.encrypt { number += 4; } "
+     "if uses.decrypt { number += 8; } number", "what a key may do, which is no status"),
     ("lakhdzeva/src/places.rt", "in_memory", "Refusal::Read | Refusal::Write => Refusal::Memory,", "inputs in memory, which never fail, and a GrowingOutput"),
 
     # What the system is asked. Only this file asks it.
@@ -148,6 +155,12 @@ PLACES = [
     ("command/src/main.rt", "", "use std::process::ExitCode;", "the status of the program"),
     ("command/src/main.rt", "main", "fn main(rt: HostRuntime) -> ExitCode { jose::start(rt) }", "it does nothing else"),
     ("jose/src/lib.rt", "start", "fn start(rt: HostRuntime) -> ExitCode { let result = perform(rt.alloc(), &rt, rt.stdin(), rt.stdout()); "
+     "let mut errors = WriterOutput::new(rt.stderr()); ExitCode::from(report(result, &mut errors)) }", "the system and its streams"),
+    ("tools/src/lib.rt", "", "use std::os::fd::AsRawFd;", "the number of a file that is held in place of a closed stream"),
+    ("tools/src/lib.rt", "", "use std::process::ExitCode;", "the status of the program"),
+    ("toolbox/src/main.rt", "", "use std::process::ExitCode;", "the status of the program"),
+    ("toolbox/src/main.rt", "main", "fn main(rt: HostRuntime) -> ExitCode { tools::start(rt) }", "it does nothing else"),
+    ("tools/src/lib.rt", "start", "fn start(rt: HostRuntime) -> ExitCode { let result = perform(rt.alloc(), &rt, rt.stdin(), rt.stdout()); "
      "let mut errors = WriterOutput::new(rt.stderr()); ExitCode::from(report(result, &mut errors)) }", "the system and its streams"),
     ("jose/src/system.rt", "", "ReadFiles for HostRuntime", "the system"),
     ("jose/src/system.rt", "", "WriteFiles for HostRuntime", "the system"),
@@ -176,6 +189,8 @@ PLACES = [
     # Statuses.
     ("jose/src/ending.rt", "report", "fn report<O: Output>(outcome: Result<(), Refusal>, out: &mut O) -> u8 { match outcome { Ok(()) => 0, Err(refusal) => { let _ = "
      "write_line(out, refusal); 1 } } }", "0 after success, and 1 after a refusal"),
+    ("tools/src/ending.rt", "report", "fn report<O: Output>(outcome: Result<(), Cause>, out: &mut O) -> u8 { match outcome { Ok(()) => 0, Err(cause) => { let _ = "
+     "write_line(out, cause); 1 } } }", "0 after success, and 1 after a refusal"),
     ("lakhdzeva/src/places.rt", "number", "fn number(refusal: Refusal) -> u32 { match refusal { Refusal::Usage => 1, Refusal::Read => 2, Refusal::Write => 3, Refusal::Memory => 4, "
      "Refusal::Random => 5, Refusal::Base64 => 6, Refusal::Json => 7, Refusal::Number => 8, Refusal::Key => 9, Refusal::Form => 10, "
      "Refusal::Header => 11, Refusal::Unsupported => 12, Refusal::NoAlgorithm => 13, Refusal::KeyDoesNotFit => 14, Refusal::Limit => 15, "
@@ -199,9 +214,9 @@ PLACES = [
      "let tag_mask = tag_mask(cipher, iv); "
      "let expected = tag_of(hash, &bit_length(aad.len() as u64), &bit_length(buf.len() as u64), &tag_mask,); "
      "if !same_octets(&expected, tag) { return None; } KeyStream::start(&counter_block(iv, 2)).apply(cipher, buf); Some(buf.len()) }", "the tag of GCM"),
-    ("ciphers/src/cbc_hmac.rt", "open_cbc_hmac", "{ let mut authentication = Authentication::<H>::start(mac_key, iv, aad); "
+    ("ciphers/src/cbc_hmac.rt", "open_cbc_hmac", "{ let (mac_key, key) = cek.split_at(cek.len() / 2); let mut authentication = Authentication::<H>::start(mac_key, iv, aad); "
      "authentication.update(buf); let mut expected = [0; 32]; let len = authentication.finish(&mut expected); "
-     "if !same_octets(&expected[..len], tag) { return None; } cbc_open(cipher, &array(iv), buf) }", "the tag of AES-CBC with HMAC"),
+     "if !same_octets(&expected[..len], tag) { return None; } cbc_open(&B::under(key), &array(iv), buf) }", "the tag of AES-CBC with HMAC"),
     ("tokens/src/verify/heads.rt", "is_one_of", "{ signatures.iter().any(|signature| same_octets(mac.octets(), signature.signature()) "
      "&& is_alike(head, signature)) }", "the signature"),
     ("tokens/src/verify/detached.rt", "are_signed", "if signed != all { return signed; }", "whether a key signed, and whether each has to"),
@@ -223,6 +238,7 @@ PLACES = [
     ("tokens/src/decrypt/salted.rt", "SaltedKeys::salt", "fn salt(&mut self, p2s: &'x [u8]) { if same_octets(self.p2s, p2s) { return; } self.p2s = p2s; salt_each(&mut self.salted, p2s); }", "two salts"),
     ("tokens/src/verify/heads.rt", "is_alike", "fn is_alike(head: &Signature, signature: &Signature) -> bool { same_octets(head.alg().as_bytes(), signature.alg().as_bytes()) && "
      "same_octets(head.protected().as_bytes(), signature.protected().as_bytes(),) }", "the algorithms and the protected headers of two signatures"),
+    ("tools/src/words.rt", "is_path_of", "fn is_path_of(path: &[u8], name: &[u8]) -> bool { path.ends_with(name) && (path.len() == name.len() || path[path.len() - name.len() - 1] == b'/') }", "the program's own name, and that of a tool"),
     ("tokens/src/verify/signers.rt", "is_among", "fn is_among(block: &KeyBlock, others: &[KeyBlock]) -> bool { others.iter().any(|other| same_octets(block.octets(), other.octets())) }", "two keys, as HMAC uses them"),
 ]
 
@@ -425,7 +441,7 @@ def compare():
     rows, without = collections.defaultdict(dict), []
     for path, function, code, _ in PLACES:
         rows[f"crates/{path}", function][code] = 0
-    for part in (it for crate in (*CRATES, "command") for it in parts(crate)):
+    for part in (it for crate in (*CRATES, "command", "toolbox") for it in parts(crate)):
         covered, counts, left = set(), rows.get((part.path, part.function), {}), collections.defaultdict(list)
         for code in counts:
             places, count = found_in(part, code)

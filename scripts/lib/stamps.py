@@ -15,7 +15,8 @@ loader = importlib.machinery.SourceFileLoader("rt", os.path.realpath(shutil.whic
 rt = importlib.util.module_from_spec(importlib.util.spec_from_loader(loader.name, loader))
 loader.exec_module(rt)
 os.chdir(ROOT)
-made = [it for it in rt.crates_of(ROOT) if os.path.isdir(it.rlib)]
+rt.rtlib.Crate = rt.Crate
+made = [it for it in rt.rtlib.crates_below(ROOT) if os.path.isdir(it.rlib)]
 if not any(os.path.exists(f"{it.folder}/out/rlib/stamp") for it in made):
     for it in made:
         with open(f"{it.folder}/out/rlib/stamp", "w", encoding="utf-8") as file:

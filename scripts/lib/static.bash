@@ -28,11 +28,11 @@ port() {
         { echo "$object (<) and static/port.c (>) have other functions" >&2; return 1; }
 }
 
-# link TARGET NEW WORDS..: links out/static/TARGET/jose.o with the C that stands for Rattle's own, with these words, and with glibc into a
+# link TARGET NEW WORDS..: links out/static/TARGET/jose.o, or the object $linked if that is set, with the C that stands for Rattle's own, with these words, and with glibc into a
 # program that needs no library, has no fixed address, and has relocations that are read-only when it starts. The kit has this C for x86_64.
 # For others, and if $ported is set, it is static/port.c. The program for x86_64 tests its processor first (static/processor.c).
 link() {
-    local target=$1 new=$2 object=out/static/$1/jose.o status=0 ours=() given=()
+    local target=$1 new=$2 object=${linked:-out/static/$1/jose.o} status=0 ours=() given=()
     shift 2
     if [ "$target" = x86_64 ]; then
         ours+=("$(mktemp --suffix=.o)")

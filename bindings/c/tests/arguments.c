@@ -53,15 +53,18 @@ static void takes_flags(bool given, bool compact, bool detach, bool all, uint64_
 #define P uint8_t *
 #define TAKES(text) takes(text, text##_length)
 
-uint32_t lakhdzeva_core_generate(T wanted, size_t wanted_length, T random, size_t random_length, P key, size_t room, size_t *length) {
-    return takes_template(wanted, wanted_length), takes_random(random, random_length), takes(key, 0), *length = room, answer;
+uint32_t lakhdzeva_core_generate(T template_text, size_t template_length, T random, size_t random_length, P key, size_t room, size_t *length) {
+    return takes_template(template_text, template_length), takes_random(random, random_length), takes(key, 0), *length = room, answer;
 }
 uint32_t lakhdzeva_core_thumbprints(T keys, size_t keys_length, uint32_t bits, P lines, size_t room, size_t *length) {
     return TAKES(keys), takes_flags(0, 0, 0, 0, bits), takes(lines, 0), *length = room, answer;
 }
-uint32_t lakhdzeva_core_sign(T keys, size_t keys_length, T wanted, size_t wanted_length, bool compact, bool detach, T payload, size_t payload_length,
+uint32_t lakhdzeva_core_judge_keys(T keys, size_t keys_length, P uses, size_t room, size_t *length) {
+    return TAKES(keys), takes(uses, 0), *length = room, answer;
+}
+uint32_t lakhdzeva_core_sign(T keys, size_t keys_length, T template_text, size_t template_length, bool compact, bool detach, T payload, size_t payload_length,
     P object, size_t room, size_t *length) {
-    takes_template(wanted, wanted_length), takes_flags(0, compact, detach, 0, 0);
+    takes_template(template_text, template_length), takes_flags(0, compact, detach, 0, 0);
     return TAKES(keys), TAKES(payload), takes(object, 0), *length = room, answer;
 }
 uint32_t lakhdzeva_core_verify(T keys, size_t keys_length, T object, size_t object_length, bool all, P payload, size_t room, size_t *length) {
@@ -83,10 +86,10 @@ uint32_t lakhdzeva_core_format_signed(T object, size_t object_length, bool given
     TAKES(object), TAKES(payload), takes_flags(given, compact, detach, 0, 1), takes(text, 0), takes(content, 0);
     return *text_length = text_room, *content_length = content_room, answer;
 }
-uint32_t lakhdzeva_core_encrypt(T keys, size_t keys_length, T wanted, size_t wanted_length, bool compact, bool detach, T random,
+uint32_t lakhdzeva_core_encrypt(T keys, size_t keys_length, T template_text, size_t template_length, bool compact, bool detach, T random,
     size_t random_length, T plaintext, size_t plaintext_length, P object, size_t object_room, size_t *object_length, P ciphertext,
     size_t ciphertext_room, size_t *ciphertext_length) {
-    TAKES(keys), takes_template(wanted, wanted_length), takes_random(random, random_length), TAKES(plaintext);
+    TAKES(keys), takes_template(template_text, template_length), takes_random(random, random_length), TAKES(plaintext);
     takes(object, 0), takes(ciphertext, 0), takes_flags(0, compact, detach, 0, 0);
     return *object_length = object_room, *ciphertext_length = ciphertext_room, answer;
 }
@@ -139,6 +142,7 @@ static void try_null(void) {
     check("and an empty template", !*template);
     gets("thumbprints of NULL", lakhdzeva_thumbprints(NULL, 0, 512, NULL, 0, &a), 13);
     check("their hash", got_number == 512);
+    gets("judge NULL", lakhdzeva_judge_keys(NULL, 0, NULL, 0, &a), 13);
     gets("sign with NULL", lakhdzeva_sign(NULL, 0, NULL, 0, 0, NULL, 0, NULL, 0, &a), 13);
     check("its template", !strcmp(template, "{}") && !is_compact && !is_detached);
     gets("sign in compact form", lakhdzeva_sign(NULL, 0, NULL, 0, LAKHDZEVA_COMPACT, NULL, 0, NULL, 0, &a), 13);

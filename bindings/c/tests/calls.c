@@ -41,6 +41,13 @@ static const unsigned char RANDOM[] = {
     0xc8, 0xb1, 0x00, 0xf0, 0x8f, 0x9c, 0x2c, 0xcf, 0x03, 0x16, 0x3c, 0x0c, 0x2b, 0x43, 0x68, 0x69, 0x6c, 0x6c, 0x69, 0x63, 0x6f, 0x74, 0x68, 0x65};
 /* Any text is a password for an object that is encrypted to one. */
 static const char PASSWORD[] = "{\"k\":\"AA\",\"kty\":\"oct\"}";
+/* A key that may encrypt, a bad one, keys that may sign and verify, one that may decrypt, one that is too short for its algorithm, and a password. */
+#define K32 "AAAAAAAAAAAAAAAAAAAAAAAAAAAAAAAAAAAAAAAAAAA"
+static const char JUDGED[] =
+    "{\"keys\":[{\"kty\":\"oct\",\"alg\":\"A128KW\",\"key_ops\":[\"wrapKey\"],\"k\":\"GawgguFyGrWKav7AX4VKUg\"},{},"
+    "{\"kty\":\"oct\",\"alg\":\"HS256\",\"key_ops\":[\"sign\"],\"k\":\"" K32 "\"},{\"kty\":\"oct\",\"alg\":\"HS256\",\"key_ops\":[\"verify\"],\"k\":\"" K32 "\"},"
+    "{\"kty\":\"oct\",\"alg\":\"A128KW\",\"key_ops\":[\"unwrapKey\"],\"k\":\"GawgguFyGrWKav7AX4VKUg\"},{\"kty\":\"oct\",\"alg\":\"HS256\",\"k\":\"AA\"},"
+    "{\"kty\":\"oct\",\"use\":\"enc\",\"k\":\"AA\"}]}";
 static const char HEADER[] = "{\"protected\":{\"alg\":\"A128KW\",\"enc\":\"A128CBC-HS256\"}}";
 
 #define TEXT(text) (text), sizeof(text) - 1
@@ -86,6 +93,10 @@ static void try_standards(void) {
     gives("a thumbprint by SHA-256", lakhdzeva_thumbprints(TEXT(WRAPPING), 256, place, ROOM, &length),
         TEXT("k1JnWRfC-5zzmL72vXIuBgTLfVROXBakS4OmGcrMCoc"));
     fresh();
+    gives("what RFC 7515's key may do", lakhdzeva_judge_keys(TEXT(SIGNING), place, ROOM, &length), TEXT("\x1f"));
+    fresh();
+    gives("what members of a set may do", lakhdzeva_judge_keys(TEXT(JUDGED), place, ROOM, &length), TEXT("\x14\0\x11\x12\x18\x10\x1c"));
+    fresh();
     gives("a key of handed in octets", lakhdzeva_generate_with_random(TEXT("{\"alg\":\"A128KW\",\"kid\":\"7\"}"), RANDOM, 16, place, ROOM, &length),
         TEXT("{\"alg\":\"A128KW\",\"k\":\"BNMfxVSd_P4LZJ36P6pqzg\",\"key_ops\":[\"wrapKey\",\"unwrapKey\"],\"kid\":\"7\",\"kty\":\"oct\"}"));
 }
@@ -114,6 +125,8 @@ static void try_refusals(void) {
         &length), LAKHDZEVA_HEADER);
     fresh();
     refuses("10: two parts", lakhdzeva_verify(TEXT(SIGNING), TEXT("a.b"), 0, place, ROOM, &length), LAKHDZEVA_FORM);
+    fresh();
+    refuses("9: no good key to judge", lakhdzeva_judge_keys(TEXT("{\"keys\":[{}]}"), place, ROOM, &length), LAKHDZEVA_KEY);
     fresh();
     refuses("9: a key of another type", lakhdzeva_verify(TEXT("{\"kty\":\"EC\"}"), TEXT(SIGNED), 0, place, ROOM, &length), LAKHDZEVA_KEY);
     fresh();
@@ -177,6 +190,7 @@ static unsigned asked;
 static uint32_t generate(const struct lent *lent) { return lakhdzeva_generate(LENT(1), LENT(0), to_count[0]); }
 static uint32_t generate_with_random(const struct lent *lent) { return lakhdzeva_generate_with_random(LENT(1), LENT(2), LENT(0), to_count[0]); }
 static uint32_t thumbprints(const struct lent *lent) { return lakhdzeva_thumbprints(LENT(1), 256, LENT(0), to_count[0]); }
+static uint32_t judge_keys(const struct lent *lent) { return lakhdzeva_judge_keys(LENT(1), LENT(0), to_count[0]); }
 static uint32_t sign(const struct lent *lent) { return lakhdzeva_sign(LENT(1), LENT(2), asked, LENT(3), LENT(0), to_count[0]); }
 static uint32_t verify(const struct lent *lent) { return lakhdzeva_verify(LENT(1), LENT(2), asked, LENT(0), to_count[0]); }
 static uint32_t verify_detached(const struct lent *lent) { return lakhdzeva_verify_detached(LENT(0), LENT(1), asked, LENT(2)); }
@@ -204,7 +218,7 @@ static const struct {
     int flags; /* the flags that it takes */
 } CALLS[] = {
     {"generate", generate, 1, 2, NO_FLAGS}, {"generate_with_random", generate_with_random, 1, 3, NO_FLAGS},
-    {"thumbprints", thumbprints, 1, 2, NO_FLAGS}, {"sign", sign, 1, 4, FORMS}, {"verify", verify, 1, 3, LAKHDZEVA_ALL},
+    {"thumbprints", thumbprints, 1, 2, NO_FLAGS}, {"judge_keys", judge_keys, 1, 2, NO_FLAGS}, {"sign", sign, 1, 4, FORMS}, {"verify", verify, 1, 3, LAKHDZEVA_ALL},
     {"verify_detached", verify_detached, 0, 3, LAKHDZEVA_ALL}, {"verify_all", verify_all, 1, 3, NO_FLAGS},
     {"verify_all_detached", verify_all_detached, 0, 3, NO_FLAGS}, {"decrypt", decrypt, 1, 4, NO_FLAGS}, {"encrypt", encrypt_by_system, 2, 5, FORMS},
     {"encrypt_with_random", encrypt_with_random, 2, 6, FORMS}, {"format_signed", format_signed, 2, 4, FORMS},

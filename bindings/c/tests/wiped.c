@@ -158,7 +158,7 @@ static size_t length, beside, object_length, apart_length, content_length, seale
 #define PLACE place, ROOM, &length
 
 static const struct {
-    const char *keys, *wanted;
+    const char *keys, *template_text;
 } RECIPIENTS[] = {
     {KEY(WRAP, "A128KW"), "{}"}, {KEY(WRAP, "A128GCMKW"), "{\"protected\":{\"enc\":\"A256GCM\"}}"}, {KEY(DIRECT, "A128GCM"), "{}"},
     {KEY(HMAC, "A256CBC-HS512"), "{}"}, {KEY(WORD, "PBES2-HS512+A256KW"), "{\"protected\":{\"p2c\":1000}}"},
@@ -166,13 +166,15 @@ static const struct {
 };
 static size_t recipient;
 #define RECIPIENT RECIPIENTS[recipient].keys, strlen(RECIPIENTS[recipient].keys)
-#define WANTED RECIPIENTS[recipient].wanted, strlen(RECIPIENTS[recipient].wanted)
+#define TEMPLATE RECIPIENTS[recipient].template_text, strlen(RECIPIENTS[recipient].template_text)
 
 static enum lakhdzeva_status generate(void) { return lakhdzeva_generate(TEXT("{\"alg\":\"HS512\"}"), PLACE); }
 static enum lakhdzeva_status generate_long(void) { return lakhdzeva_generate(TEXT("{\"bytes\":4096}"), PLACE); }
 static enum lakhdzeva_status generate_badly(void) { return lakhdzeva_generate(TEXT("{\"alg\":7}"), PLACE); }
 static enum lakhdzeva_status thumbprint(void) { return lakhdzeva_thumbprints(TEXT(SIGNING), 256, PLACE); }
 static enum lakhdzeva_status thumbprint_small(void) { return lakhdzeva_thumbprints(TEXT(SIGNING), 512, place, 1, &length); }
+static enum lakhdzeva_status judge(void) { return lakhdzeva_judge_keys(RECIPIENT, PLACE); }
+static enum lakhdzeva_status judge_small(void) { return lakhdzeva_judge_keys(RECIPIENT, place, 0, &length); }
 static enum lakhdzeva_status sign(void) { return lakhdzeva_sign(TEXT(SIGNING), NULL, 0, LAKHDZEVA_COMPACT, TEXT("payload"), PLACE); }
 static enum lakhdzeva_status sign_badly(void) { return lakhdzeva_sign(TEXT(SIGNING), TEXT("{\"header\":{}}"), 8, TEXT("payload"), PLACE); }
 static enum lakhdzeva_status sign_refused(void) { return lakhdzeva_sign(TEXT(SIGNING), TEXT("{\"protected\":{\"alg\":\"HS384\"}}"), 0, TEXT("x"), PLACE); }
@@ -186,12 +188,12 @@ static enum lakhdzeva_status verify_all(void) { return lakhdzeva_verify_all(TEXT
 static enum lakhdzeva_status verify_two(void) { return lakhdzeva_verify_all(TEXT(SIGNING), 2, object, object_length, PLACE); }
 static enum lakhdzeva_status verify_all_apart(void) { return lakhdzeva_verify_all_detached(TEXT(SIGNING), 1, apart, apart_length, TEXT("payload")); }
 static enum lakhdzeva_status encrypt_it(void) {
-    return lakhdzeva_encrypt(RECIPIENT, WANTED, 0, TEXT(PLAINTEXT), PLACE, NULL, 0, NULL);
+    return lakhdzeva_encrypt(RECIPIENT, TEMPLATE, 0, TEXT(PLAINTEXT), PLACE, NULL, 0, NULL);
 }
-static enum lakhdzeva_status encrypt_small(void) { return lakhdzeva_encrypt(RECIPIENT, WANTED, 0, TEXT(PLAINTEXT), place, 9, &length, NULL, 0, NULL); }
-static enum lakhdzeva_status encrypt_badly(void) { return lakhdzeva_encrypt(RECIPIENT, WANTED, 8, TEXT(PLAINTEXT), PLACE, NULL, 0, NULL); }
+static enum lakhdzeva_status encrypt_small(void) { return lakhdzeva_encrypt(RECIPIENT, TEMPLATE, 0, TEXT(PLAINTEXT), place, 9, &length, NULL, 0, NULL); }
+static enum lakhdzeva_status encrypt_badly(void) { return lakhdzeva_encrypt(RECIPIENT, TEMPLATE, 8, TEXT(PLAINTEXT), PLACE, NULL, 0, NULL); }
 static enum lakhdzeva_status encrypt_apart(void) {
-    return lakhdzeva_encrypt(RECIPIENT, WANTED, LAKHDZEVA_DETACH, TEXT(PLAINTEXT), PLACE, other, ROOM, &beside);
+    return lakhdzeva_encrypt(RECIPIENT, TEMPLATE, LAKHDZEVA_DETACH, TEXT(PLAINTEXT), PLACE, other, ROOM, &beside);
 }
 static enum lakhdzeva_status decrypt(void) {
     return lakhdzeva_decrypt(RECIPIENT, sealed[recipient], sealed_length[recipient], NULL, 0, 9000, PLACE);
@@ -275,7 +277,7 @@ int main(void) {
         call *made;
         enum lakhdzeva_status wanted;
     } each[] = {
-        {"encrypt", encrypt_it, LAKHDZEVA_OK}, {"encrypt detached", encrypt_apart, LAKHDZEVA_OK}, {"encrypt into a small place", encrypt_small, LAKHDZEVA_WRITE},
+        {"judge_keys", judge, LAKHDZEVA_OK}, {"judge_keys into no place", judge_small, LAKHDZEVA_WRITE}, {"encrypt", encrypt_it, LAKHDZEVA_OK}, {"encrypt detached", encrypt_apart, LAKHDZEVA_OK}, {"encrypt into a small place", encrypt_small, LAKHDZEVA_WRITE},
         {"encrypt with a wrong flag", encrypt_badly, LAKHDZEVA_USAGE}, {"decrypt", decrypt, LAKHDZEVA_OK},
         {"decrypt into a small place", decrypt_small, LAKHDZEVA_WRITE},
     };

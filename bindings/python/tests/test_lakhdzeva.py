@@ -386,9 +386,9 @@ class Contents(Case):
     def test_encrypted_contents_come_back(self):
         names = ("A128CBC-HS256", "A192CBC-HS384", "A256CBC-HS512", "A128GCM", "A192GCM", "A256GCM")
         for plaintext, name in itertools.product(self.PAYLOADS, names):
-            wanted = {"protected": {"enc": name}}
-            self.assertEqual(lakhdzeva.decrypt(A128, lakhdzeva.encrypt(A128, plaintext, wanted)), plaintext)
-            token, ciphertext = lakhdzeva.encrypt_detached(A128, plaintext, wanted, compact=False)
+            template = {"protected": {"enc": name}}
+            self.assertEqual(lakhdzeva.decrypt(A128, lakhdzeva.encrypt(A128, plaintext, template)), plaintext)
+            token, ciphertext = lakhdzeva.encrypt_detached(A128, plaintext, template, compact=False)
             self.assertNotIn("ciphertext", json.loads(token))
             for kind in (bytes, bytearray, memoryview):
                 opened = lakhdzeva.decrypt(A128, json.loads(token), ciphertext=kind(ciphertext))
@@ -515,8 +515,8 @@ class Judged(Case):
 
     def test_what_makes_tokens_is_the_callers(self):
         keys = lakhdzeva.Keys(self.ONE)
-        for wanted, number in (("{", 7), ({"protected": {"n": 1.5}}, 8), ({"other": {}}, 10), ({"protected": {"alg": 1}}, 11), ({"protected": {"alg": "none"}}, 12)):
-            self.blames(Fault, number, lakhdzeva.sign, keys, b"", wanted)
+        for template, number in (("{", 7), ({"protected": {"n": 1.5}}, 8), ({"other": {}}, 10), ({"protected": {"alg": 1}}, 11), ({"protected": {"alg": "none"}}, 12)):
+            self.blames(Fault, number, lakhdzeva.sign, keys, b"", template)
         self.blames(Fault, 14, lakhdzeva.encrypt, keys, b"")
         self.blames(Fault, 13, lakhdzeva.generate)
         self.blames(Fault, 16, lakhdzeva.sign, [self.ONE, self.ONE], b"")
@@ -582,6 +582,58 @@ class Judged(Case):
             lakhdzeva.Keys.__dict__[name].__set__(made, getattr(lakhdzeva.Keys(self.ONE), name))
         self.assertEqual(lakhdzeva.verify(made, token_of(FIRST, '{"alg":"HS256"}', b"hi")), b"hi")
         self.blames(BadToken, 14, lakhdzeva.verify, made, token_of(FIRST, '{"alg":"HS512"}', b"hi"))
+
+    # What a good key may do: to sign, verify, encrypt and decrypt.
+    USES = [
+        (key_of(FIRST), "sved"),
+        (key_of(FIRST, alg="HS256"), "sv"),
+        (key_of(FIRST, alg="HS256", key_ops=["sign"]), "s"),
+        (key_of(FIRST, alg="HS256", key_ops=["verify"]), "v"),
+        (key_of(bytes(31), alg="HS256"), ""),
+        (key_of(FIRST, use="sig"), "sv"),
+        (key_of(FIRST, use="enc"), "ed"),
+        (key_of(bytes(16), alg="A128KW", key_ops=["wrapKey"]), "e"),
+        (key_of(bytes(16), alg="A128KW", key_ops=["unwrapKey"]), "d"),
+        (key_of(bytes(32), alg="dir", key_ops=["decrypt"]), "d"),
+        (key_of(bytes(32), alg="A256GCM", key_ops=["encrypt"]), "e"),
+        (key_of(b"word", alg="PBES2-HS256+A128KW", key_ops=["deriveKey"]), "ed"),
+        (key_of(b"word", alg="RS256"), ""),
+        (key_of(b"w", key_ops=["sign", "verify"]), ""),
+    ]
+
+    def test_what_keys_may_do(self):
+        rows = [(key, lakhdzeva.KeyUses(True, *(it in uses for it in "sved"))) for key, uses in self.USES]
+        for key, uses in rows:
+            self.assertEqual(lakhdzeva.judge_keys(key), [uses])
+            keys = lakhdzeva.Keys(key)
+            self.assertEqual((keys.can_sign, keys.can_verify, keys.can_encrypt, keys.can_decrypt), tuple(uses)[1:])
+        bad, none = {"kty": "RSA"}, lakhdzeva.KeyUses(False, False, False, False, False)
+        keys = lakhdzeva.Keys([bad, *(key for key, _ in rows), bad])
+        self.assertEqual(keys.uses, [none, *(uses for _, uses in rows), none])
+        self.assertEqual(keys.uses, lakhdzeva.judge_keys(keys))
+        self.assertEqual(len(keys), len(rows))
+
+    def test_keys_that_cannot_be_judged(self):
+        for number, text in ((7, "{"), (8, '{"kty":"oct","k":"AA","n":1.5}'), (9, "{}"), (9, '{"keys":[]}'), (9, '{"keys":[{}]}')):
+            self.blames(Fault, number, lakhdzeva.judge_keys, text)
+        self.blames(Fault, 15, lakhdzeva.judge_keys, [key_of(FIRST)] * 65)
+        self.assertEqual(len(lakhdzeva.judge_keys([key_of(FIRST)] + [{}] * 63)), 64)
+
+    def test_what_may_do_something_does(self):
+        """A key may sign or encrypt if a call by some algorithm does."""
+        for key, uses in self.USES:
+            self.assertEqual(self.some_works(lakhdzeva.sign, key, [{"alg": it} for it in ("HS256", "HS384", "HS512")]), "s" in uses, key)
+            pairs = [{"alg": alg, "enc": enc} for alg in ("dir", "A128KW", "A256KW", "PBES2-HS256+A128KW") for enc in ("A128GCM", "A256GCM")]
+            self.assertEqual(self.some_works(lakhdzeva.encrypt, key, pairs), "e" in uses, key)
+
+    def some_works(self, function, key, headers):
+        for header in headers:
+            try:
+                function(key, b"", {"protected": header})
+                return True
+            except Fault:
+                pass
+        return False
 
     def test_a_list_of_thumbprints_is_a_copy(self):
         keys = lakhdzeva.Keys(self.ONE)
@@ -760,8 +812,8 @@ class Passwords(Case):
     WORD = key_of(b"word")
 
     def token(self, keys, iterations):
-        wanted = {"protected": {"alg": "PBES2-HS256+A128KW", "enc": "A128GCM", "p2c": iterations}}
-        return lakhdzeva.encrypt(keys, b"text", wanted, compact=False)
+        template = {"protected": {"alg": "PBES2-HS256+A128KW", "enc": "A128GCM", "p2c": iterations}}
+        return lakhdzeva.encrypt(keys, b"text", template, compact=False)
 
     def check(self, keys, token, needed):
         """The call makes so many iterations in all, and is refused if it may make one less."""
@@ -898,19 +950,20 @@ class Lies(Case):
         flags = [True, False]
         size = {"bytes": 20, "kid": "7"}
         return [
-            (lakhdzeva.generate, {"wanted": [size, json.dumps(size), json.dumps(size).encode()]}),
+            (lakhdzeva.generate, {"template": [size, json.dumps(size), json.dumps(size).encode()]}),
             (lakhdzeva.thumbprints, {"keys": keys, "hash": ["S256", "sha512"]}),
             (lakhdzeva.thumbprint, {"key": keys, "hash": ["S256", "S512"]}),
+            (lakhdzeva.judge_keys, {"keys": keys}),
             (self.of_keys, {"keys": keys}),
             (self.of_secret, {"secret": contents}),
-            (lakhdzeva.sign, {"keys": keys, "payload": contents, "wanted": templates, "compact": flags}),
-            (lakhdzeva.sign_detached, {"keys": keys, "payload": contents, "wanted": templates, "compact": flags}),
+            (lakhdzeva.sign, {"keys": keys, "payload": contents, "template": templates, "compact": flags}),
+            (lakhdzeva.sign_detached, {"keys": keys, "payload": contents, "template": templates, "compact": flags}),
             (lakhdzeva.verify, {"keys": keys, "token": [signed, compact, compact.encode()], "all": flags}),
             (lakhdzeva.verify_detached, {"keys": keys, "token": [apart], "payload": contents, "all": flags}),
             (lakhdzeva.verify_all, {"keys": keys, "signers": [1, 2], "token": [signed, compact, compact.encode()]}),
             (lakhdzeva.verify_all_detached, {"keys": keys, "signers": [1, 2], "token": [apart], "payload": contents}),
-            (lakhdzeva.encrypt, {"keys": wraps, "plaintext": contents, "wanted": templates, "compact": flags}),
-            (lakhdzeva.encrypt_detached, {"keys": wraps, "plaintext": contents, "wanted": templates, "compact": flags}),
+            (lakhdzeva.encrypt, {"keys": wraps, "plaintext": contents, "template": templates, "compact": flags}),
+            (lakhdzeva.encrypt_detached, {"keys": wraps, "plaintext": contents, "template": templates, "compact": flags}),
             (lakhdzeva.decrypt, {"keys": wraps, "token": [a5, RFC7516_A3, RFC7516_A3.encode()], "iterations": [0, 5, 2**70]}),
             (lakhdzeva.decrypt, {"keys": wraps, "token": [a5_apart], "ciphertext": ciphertexts, "iterations": [0]}),
             (lakhdzeva.format_signed, {"token": [signed, compact, compact.encode()], "compact": flags}),
@@ -1060,6 +1113,7 @@ class Types(Case):
                 lambda: lakhdzeva.decrypt(other, token),
                 lambda: lakhdzeva.thumbprint(other),
                 lambda: lakhdzeva.thumbprints(other),
+                lambda: lakhdzeva.judge_keys(other),
                 lambda: lakhdzeva.verify(key, other),
                 lambda: lakhdzeva.verify_all(key, 1, other),
                 lambda: lakhdzeva.decrypt(key, other),
@@ -1074,7 +1128,7 @@ class Types(Case):
                     lambda: lakhdzeva.sign(key, b"", other),
                     lambda: lakhdzeva.encrypt(key, b"", other),
                 ):
-                    with self.assertRaisesRegex(TypeError, "wanted must be"):
+                    with self.assertRaisesRegex(TypeError, "template must be"):
                         call()
         for other in (None, 256, b"S256", ["S256"]):
             with self.assertRaisesRegex(TypeError, "hash must be"):
@@ -1131,8 +1185,8 @@ class Types(Case):
         for name in lakhdzeva.__all__:
             self.assertTrue(getattr(lakhdzeva, name).__doc__)
         public = (
-            "BadToken Fault Keys Refused decrypt encrypt encrypt_detached format_encrypted format_encrypted_detached format_signed "
-            "format_signed_detached generate library refusals sign sign_detached thumbprint thumbprints verify verify_all verify_all_detached "
+            "BadToken Fault KeyUses Keys Refused decrypt encrypt encrypt_detached format_encrypted format_encrypted_detached format_signed "
+            "format_signed_detached generate judge_keys library refusals sign sign_detached thumbprint thumbprints verify verify_all verify_all_detached "
             "verify_detached"
         )
         self.assertEqual(sorted(lakhdzeva.__all__), public.split())
@@ -1151,6 +1205,7 @@ class Library(Case):
         return {
             "generate": ((size, len(size)), 1),
             "thumbprints": ((text, len(text), 256), 1),
+            "judge_keys": ((text, len(text)), 1),
             "sign": ((text, len(text), None, 0, flags, octets, 10), 1),
             "verify": ((rfc7515, len(rfc7515), signed, len(signed), 0), 1),
             "verify_all": ((rfc7515, len(rfc7515), 1, signed, len(signed)), 1),
@@ -1248,9 +1303,9 @@ class Library(Case):
                     self.assertEqual(len(check(1, lakhdzeva.thumbprints, text, "S512")), count)
                 for octets, payload, more in itertools.product((32, 48, 64), (0, 1, 2, 300), ({}, long)):
                     keys = [key_of(bytes(octets))] * count
-                    for wanted in ({"protected": more}, {"header": more}, {"header": {"alg": "HS256"}, "protected": more}):
-                        check(1, lakhdzeva.sign, keys, bytes(payload), wanted, compact=False)
-                        token = check(1, lakhdzeva.sign_detached, keys, bytes(payload), wanted, compact=False)
+                    for template in ({"protected": more}, {"header": more}, {"header": {"alg": "HS256"}, "protected": more}):
+                        check(1, lakhdzeva.sign, keys, bytes(payload), template, compact=False)
+                        token = check(1, lakhdzeva.sign_detached, keys, bytes(payload), template, compact=False)
                         for form in (token, json.dumps(json.loads(token))):
                             check(2, lakhdzeva.format_signed, form, payload=bytes(payload))
                             check(2, lakhdzeva.format_signed_detached, form, payload=bytes(payload))
@@ -1258,10 +1313,10 @@ class Library(Case):
             for count, (octets, name), enc in itertools.product((1, 2, 64), wraps, ("A256CBC-HS512", "A128GCM")):
                 text = '{"keys":[%s]}' % ",".join(['{"k":"%s","kty":"oct"}' % b64(bytes(octets))] * count)
                 header = {"alg": name, "enc": enc, **({"p2c": 1000} if name[0] == "P" else {})}
-                for wanted in ({"protected": header}, {"unprotected": header}, {"protected": {**header, **long}, "aad": "A" * 400}):
+                for template in ({"protected": header}, {"unprotected": header}, {"protected": {**header, **long}, "aad": "A" * 400}):
                     for plaintext in (0, 15, 16, 300):
-                        check(2, lakhdzeva.encrypt, text, bytes(plaintext), wanted, compact=False)
-                        answer = check(2, lakhdzeva.encrypt_detached, text, bytes(plaintext), wanted, compact=False)
+                        check(2, lakhdzeva.encrypt, text, bytes(plaintext), template, compact=False)
+                        answer = check(2, lakhdzeva.encrypt_detached, text, bytes(plaintext), template, compact=False)
                     check(2, lakhdzeva.format_encrypted, answer[0], ciphertext=answer[1])
                     check(2, lakhdzeva.format_encrypted_detached, answer[0], ciphertext=answer[1])
                 # Each of the keys is a password for each of the recipients.
@@ -1270,13 +1325,13 @@ class Library(Case):
             for token in (RFC7515_A1, RFC7515_A1 + "\n"):
                 check(2, lakhdzeva.format_signed, token)
             for length, header in ((100000, {}), (0, {"a": "b" * 50000}), (100001, {"a": "b" * 100001})):
-                content, wanted = bytes(length), {"protected": header}
-                detached = check(1, lakhdzeva.sign_detached, key_of(FIRST), content, wanted)
-                signed = check(1, lakhdzeva.sign, key_of(FIRST), content, wanted)
+                content, template = bytes(length), {"protected": header}
+                detached = check(1, lakhdzeva.sign_detached, key_of(FIRST), content, template)
+                signed = check(1, lakhdzeva.sign, key_of(FIRST), content, template)
                 for token in (signed, check(2, lakhdzeva.format_signed, detached, payload=content)):
                     self.assertEqual(check(1, lakhdzeva.verify, key_of(FIRST), token), content)
                     self.assertEqual(check(2, lakhdzeva.format_signed_detached, token, compact=True), (detached, content))
-                token = check(2, lakhdzeva.encrypt, A128, content, wanted)
+                token = check(2, lakhdzeva.encrypt, A128, content, template)
                 detached, ciphertext = check(2, lakhdzeva.format_encrypted_detached, token, compact=True)
                 self.assertEqual(check(2, lakhdzeva.format_encrypted, detached, compact=True, ciphertext=ciphertext), token)
                 self.assertEqual(check(1, lakhdzeva.decrypt, A128, token), content)
@@ -1288,11 +1343,11 @@ class Library(Case):
     def test_rooms_of_a_long_template(self):
         """A room is not many times the length of the answer: a signature repeats the template, and a recipient does not."""
         patch, places = self.counted()
-        wanted = {"protected": {"a": "b" * 100000}}
+        template = {"protected": {"a": "b" * 100000}}
         for count in (1, 20, 64):
             keys = [key_of(FIRST, alg="HS256")] * count
             wraps = [key_of(FIRST, alg="A256KW")] * count
-            for make in (lambda: lakhdzeva.sign(keys, b"", wanted, compact=False), lambda: lakhdzeva.encrypt(wraps, b"", wanted, compact=False)):
+            for make in (lambda: lakhdzeva.sign(keys, b"", template, compact=False), lambda: lakhdzeva.encrypt(wraps, b"", template, compact=False)):
                 with patch:
                     places.clear()
                     token = make()

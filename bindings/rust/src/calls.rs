@@ -19,10 +19,10 @@ pub(crate) const ALL: u32 = 4;
 unsafe extern "C" {
     fn lakhdzeva_name(status: u32) -> *const c_char;
     fn lakhdzeva_version() -> *const c_char;
-    fn lakhdzeva_generate_room(wanted_length: usize) -> usize;
+    fn lakhdzeva_generate_room(template_length: usize) -> usize;
     fn lakhdzeva_generate(
-        wanted: *const u8,
-        wanted_length: usize,
+        template_text: *const u8,
+        template_length: usize,
         key: *mut u8,
         room: usize,
         length: *mut usize,
@@ -36,16 +36,24 @@ unsafe extern "C" {
         room: usize,
         length: *mut usize,
     ) -> u32;
+    fn lakhdzeva_judge_keys_room(keys_length: usize) -> usize;
+    fn lakhdzeva_judge_keys(
+        keys: *const u8,
+        keys_length: usize,
+        uses: *mut u8,
+        room: usize,
+        length: *mut usize,
+    ) -> u32;
     fn lakhdzeva_sign_room(
         keys_length: usize,
-        wanted_length: usize,
+        template_length: usize,
         payload_length: usize,
     ) -> usize;
     fn lakhdzeva_sign(
         keys: *const u8,
         keys_length: usize,
-        wanted: *const u8,
-        wanted_length: usize,
+        template_text: *const u8,
+        template_length: usize,
         flags: u32,
         payload: *const u8,
         payload_length: usize,
@@ -94,15 +102,15 @@ unsafe extern "C" {
     ) -> u32;
     fn lakhdzeva_encrypt_room(
         keys_length: usize,
-        wanted_length: usize,
+        template_length: usize,
         plaintext_length: usize,
     ) -> usize;
     fn lakhdzeva_ciphertext_room(plaintext_length: usize) -> usize;
     fn lakhdzeva_encrypt(
         keys: *const u8,
         keys_length: usize,
-        wanted: *const u8,
-        wanted_length: usize,
+        template_text: *const u8,
+        template_length: usize,
         flags: u32,
         plaintext: *const u8,
         plaintext_length: usize,
@@ -226,8 +234,8 @@ pub(crate) fn version() -> &'static str {
     version.to_str().unwrap_or("unknown")
 }
 
-pub(crate) fn generate(wanted: &[u8]) -> Result<Vec<u8>, Refusal> {
-    let (text, size) = (wanted.as_ptr(), wanted.len());
+pub(crate) fn generate(template: &[u8]) -> Result<Vec<u8>, Refusal> {
+    let (text, size) = (template.as_ptr(), template.len());
     // SAFETY: the first page of this module says how each duty of a caller is met. All pointers and lengths are of the arguments, in pairs,
     // and `answer` gives the call a place of the room, and a length.
     unsafe {
@@ -248,21 +256,31 @@ pub(crate) fn thumbprints(keys: &[u8], bits: u32) -> Result<Vec<u8>, Refusal> {
     }
 }
 
+pub(crate) fn judge_keys(keys: &[u8]) -> Result<Vec<u8>, Refusal> {
+    // SAFETY: as in `generate`.
+    unsafe {
+        let room = lakhdzeva_judge_keys_room(keys.len());
+        answer(room, |(uses, length)| {
+            lakhdzeva_judge_keys(keys.as_ptr(), keys.len(), uses, room, length)
+        })
+    }
+}
+
 pub(crate) fn sign(
     keys: &[u8],
-    wanted: &[u8],
+    template: &[u8],
     flags: u32,
     payload: &[u8],
 ) -> Result<Vec<u8>, Refusal> {
     // SAFETY: as in `generate`. Each number is allowed as flags.
     unsafe {
-        let room = lakhdzeva_sign_room(keys.len(), wanted.len(), held(flags, payload.len()));
+        let room = lakhdzeva_sign_room(keys.len(), template.len(), held(flags, payload.len()));
         answer(room, |(object, length)| {
             lakhdzeva_sign(
                 keys.as_ptr(),
                 keys.len(),
-                wanted.as_ptr(),
-                wanted.len(),
+                template.as_ptr(),
+                template.len(),
                 flags,
                 payload.as_ptr(),
                 payload.len(),
@@ -354,11 +372,11 @@ pub(crate) fn verify_all_detached(
     })
 }
 
-pub(crate) fn encrypt(keys: &[u8], wanted: &[u8], flags: u32, plaintext: &[u8]) -> Answers {
+pub(crate) fn encrypt(keys: &[u8], template: &[u8], flags: u32, plaintext: &[u8]) -> Answers {
     // SAFETY: as in `sign`. The two places do not overlap, since they are two vectors.
     unsafe {
         let content = held(flags, plaintext.len());
-        let room = lakhdzeva_encrypt_room(keys.len(), wanted.len(), content);
+        let room = lakhdzeva_encrypt_room(keys.len(), template.len(), content);
         let other_room = detached(flags, lakhdzeva_ciphertext_room(plaintext.len()));
         answers(
             room,
@@ -367,8 +385,8 @@ pub(crate) fn encrypt(keys: &[u8], wanted: &[u8], flags: u32, plaintext: &[u8]) 
                 lakhdzeva_encrypt(
                     keys.as_ptr(),
                     keys.len(),
-                    wanted.as_ptr(),
-                    wanted.len(),
+                    template.as_ptr(),
+                    template.len(),
                     flags,
                     plaintext.as_ptr(),
                     plaintext.len(),

@@ -4,11 +4,12 @@ use std::fmt;
 /// One key or a set of keys, which was judged when it was read.
 ///
 /// So a refusal of its methods is about the token, or about what is signed or encrypted, unless it [is a fault](Refusal::is_fault) of the machine.
-/// Some things are not judged:
+/// A service asks two things when it starts:
 ///
 /// - Bad keys of a set are passed over. [`len`](Keys::len) is the number of the good ones: compare it with the number that you expect.
-/// - Whether a key may sign, encrypt or decrypt shows at the first call. [`can_verify`](Keys::can_verify) says whether one of them may verify
-///   signatures.
+///   [`uses`](Keys::uses) says which are bad, and what each of the others may do.
+/// - [`can_sign`](Keys::can_sign), [`can_verify`](Keys::can_verify), [`can_encrypt`](Keys::can_encrypt) and
+///   [`can_decrypt`](Keys::can_decrypt) say whether one of them may. To sign and to encrypt, all of them must.
 ///
 /// `Debug` shows no secret and no thumbprint. The memory is not wiped.
 ///
@@ -25,30 +26,48 @@ use std::fmt;
 #[derive(Clone)]
 pub struct Keys {
     text: Vec<u8>,
+    uses: Vec<KeyUses>,
     thumbprints: Vec<String>,
-    can_verify: bool,
 }
 
-/// Tokens that nobody signed, one for each algorithm, with the length of its signature. If a key may verify the algorithm, they are refused with
-/// `NotOpened`.
-const FORGED: [(&str, usize); 3] = [
-    ("eyJhbGciOiJIUzI1NiJ9", 43),
-    ("eyJhbGciOiJIUzM4NCJ9", 64),
-    ("eyJhbGciOiJIUzUxMiJ9", 86),
-];
+/// Whether a member of a text of keys is a good key, and what it may do by some algorithm.
+#[derive(Clone, Copy, Debug, PartialEq, Eq)]
+#[allow(clippy::struct_excessive_bools)]
+pub struct KeyUses {
+    /// It is an octet key, and not damaged.
+    pub good: bool,
+    /// It may sign.
+    pub sign: bool,
+    /// It may verify signatures.
+    pub verify: bool,
+    /// It may encrypt.
+    pub encrypt: bool,
+    /// It may decrypt.
+    pub decrypt: bool,
+}
+
+impl KeyUses {
+    /// By the number in lakhdzeva.h.
+    pub(crate) fn of_number(number: u8) -> KeyUses {
+        KeyUses {
+            good: number & 16 != 0,
+            sign: number & 1 != 0,
+            verify: number & 2 != 0,
+            encrypt: number & 4 != 0,
+            decrypt: number & 8 != 0,
+        }
+    }
+}
 
 impl Keys {
     /// Reads the JSON text of a key or of a set. A text without a good key is refused.
     pub fn new(text: &[u8]) -> Result<Keys, Refusal> {
+        let uses = crate::judge_keys(text)?;
         let lines = crate::thumbprints(text, Hash::Sha256)?;
-        let can_verify = FORGED.iter().any(|(header, length)| {
-            let token = format!("{header}..{}", "A".repeat(*length));
-            crate::verify(text, token.as_bytes(), Signers::One) == Err(Refusal::NotOpened)
-        });
         Ok(Keys {
             text: text.to_vec(),
+            uses,
             thumbprints: lines.split('\n').map(str::to_string).collect(),
-            can_verify,
         })
     }
 
@@ -63,13 +82,12 @@ impl Keys {
         }
         let k = base64url(secret);
         let keys = Keys::new(format!(r#"{{"kty":"oct","alg":"{alg}","k":"{k}"}}"#).as_bytes())?;
-        // What may sign or encrypt nothing is refused here. A password may have any length.
-        if alg.starts_with("HS") {
-            keys.sign(b"{}", Form::Compact, b"")?;
-        } else if !alg.starts_with("PBES2") {
-            keys.encrypt(b"{}", Form::Compact, b"")?;
+        // What may do nothing is refused here. A password may have any length.
+        if keys.can_sign() || keys.can_encrypt() {
+            Ok(keys)
+        } else {
+            Err(Refusal::KeyDoesNotFit)
         }
-        Ok(keys)
     }
 
     /// The number of good keys, which is not 0.
@@ -79,10 +97,34 @@ impl Keys {
         self.thumbprints.len()
     }
 
+    /// What each member of the text may do, in order, with the bad ones.
+    #[must_use]
+    pub fn uses(&self) -> &[KeyUses] {
+        &self.uses
+    }
+
+    /// Whether one of the keys may sign by some algorithm.
+    #[must_use]
+    pub fn can_sign(&self) -> bool {
+        self.uses.iter().any(|uses| uses.sign)
+    }
+
     /// Whether one of the keys may verify signatures. A service that verifies tokens asks this when it starts.
     #[must_use]
     pub fn can_verify(&self) -> bool {
-        self.can_verify
+        self.uses.iter().any(|uses| uses.verify)
+    }
+
+    /// Whether one of the keys may encrypt by some algorithms.
+    #[must_use]
+    pub fn can_encrypt(&self) -> bool {
+        self.uses.iter().any(|uses| uses.encrypt)
+    }
+
+    /// Whether one of the keys may decrypt by some algorithms.
+    #[must_use]
+    pub fn can_decrypt(&self) -> bool {
+        self.uses.iter().any(|uses| uses.decrypt)
     }
 
     /// The thumbprints of the good keys by SHA-256 (RFC 7638), in their order. That of a password is not safe to publish: it lets anyone test
@@ -99,18 +141,18 @@ impl Keys {
     }
 
     /// [`sign`](crate::sign) with these keys.
-    pub fn sign(&self, wanted: &[u8], form: Form, payload: &[u8]) -> Result<String, Refusal> {
-        crate::sign(&self.text, wanted, form, payload)
+    pub fn sign(&self, template: &[u8], form: Form, payload: &[u8]) -> Result<String, Refusal> {
+        crate::sign(&self.text, template, form, payload)
     }
 
     /// [`sign_detached`](crate::sign_detached) with these keys.
     pub fn sign_detached(
         &self,
-        wanted: &[u8],
+        template: &[u8],
         form: Form,
         payload: &[u8],
     ) -> Result<String, Refusal> {
-        crate::sign_detached(&self.text, wanted, form, payload)
+        crate::sign_detached(&self.text, template, form, payload)
     }
 
     /// [`verify`](crate::verify) with these keys, one of which must have signed the object.
@@ -139,18 +181,23 @@ impl Keys {
     }
 
     /// [`encrypt`](crate::encrypt) with these keys.
-    pub fn encrypt(&self, wanted: &[u8], form: Form, plaintext: &[u8]) -> Result<String, Refusal> {
-        crate::encrypt(&self.text, wanted, form, plaintext)
+    pub fn encrypt(
+        &self,
+        template: &[u8],
+        form: Form,
+        plaintext: &[u8],
+    ) -> Result<String, Refusal> {
+        crate::encrypt(&self.text, template, form, plaintext)
     }
 
     /// [`encrypt_detached`](crate::encrypt_detached) with these keys.
     pub fn encrypt_detached(
         &self,
-        wanted: &[u8],
+        template: &[u8],
         form: Form,
         plaintext: &[u8],
     ) -> Result<(String, Vec<u8>), Refusal> {
-        crate::encrypt_detached(&self.text, wanted, form, plaintext)
+        crate::encrypt_detached(&self.text, template, form, plaintext)
     }
 
     /// [`decrypt`](crate::decrypt) with these keys.

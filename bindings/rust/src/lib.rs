@@ -22,7 +22,7 @@
 //!
 //! - `keys` is the JSON text of one key, or of a set (RFC 7517 sections 4 and 5). Signing and encrypting use each key of a set, and
 //!   refuse a set with an invalid key. Verifying and decrypting ignore invalid keys of a set, and try each of the others.
-//! - `wanted` is a JSON template: the headers of a token, or the members of a key. With `b"{}"` the keys decide.
+//! - `template` is a JSON template: the headers of a token, or the members of a key. With `b"{}"` the keys decide.
 //! - `form` is the serialization of an object that is written (RFC 7515 and RFC 7516, section 7). Objects that are read may have any form.
 //!
 //! # What to mind with every function
@@ -51,7 +51,7 @@ mod calls;
 mod keys;
 mod refusal;
 
-pub use crate::keys::Keys;
+pub use crate::keys::{KeyUses, Keys};
 pub use crate::refusal::Refusal;
 
 /// The version of the library, such as `3.0.0`.
@@ -145,8 +145,8 @@ impl Hash {
 /// assert_eq!(generate(b"{}"), Err(Refusal::NoAlgorithm));
 /// # Ok::<(), Refusal>(())
 /// ```
-pub fn generate(wanted: &[u8]) -> Result<Vec<u8>, Refusal> {
-    calls::generate(wanted)
+pub fn generate(template: &[u8]) -> Result<Vec<u8>, Refusal> {
+    calls::generate(template)
 }
 
 /// The thumbprints of the valid keys of a text, in their order, with a line feed between each two (RFC 7638).
@@ -167,6 +167,31 @@ pub fn thumbprints(keys: &[u8], hash: Hash) -> Result<String, Refusal> {
     calls::thumbprints(keys, hash.bits()).map(text)
 }
 
+/// What each member of a text of keys may do, in order: each member of a set, or the key that is alone. [`Keys::uses`] is the same, and is
+/// judged once.
+///
+/// - A key may do something if it may by some algorithm. Whether it fits an object shows when that comes.
+/// - Whoever has a key can do with it what it may not do: `use` and `key_ops` are rules for this library and others like it.
+///
+/// Refusals: [`Json`](Refusal::Json), [`Number`](Refusal::Number), [`Key`](Refusal::Key), [`Limit`](Refusal::Limit),
+/// [`Memory`](Refusal::Memory).
+///
+/// ```
+/// use lakhdzeva::{judge_keys, Refusal};
+///
+/// let set = br#"{"keys":[{"kty":"RSA"},{"kty":"oct","alg":"A128KW","k":"GawgguFyGrWKav7AX4VKUg"}]}"#;
+/// let uses = judge_keys(set)?;
+/// assert!(!uses[0].good);
+/// assert!(uses[1].encrypt && uses[1].decrypt && !uses[1].verify);
+/// # Ok::<(), Refusal>(())
+/// ```
+pub fn judge_keys(keys: &[u8]) -> Result<Vec<KeyUses>, Refusal> {
+    Ok(calls::judge_keys(keys)?
+        .into_iter()
+        .map(KeyUses::of_number)
+        .collect())
+}
+
 /// Signs the payload with each of the keys, and returns the object (RFC 7515 section 5.1).
 ///
 /// The template may have the members `protected` and `header`. Each is an object with members of the header. `header` is a header that is
@@ -185,8 +210,8 @@ pub fn thumbprints(keys: &[u8], hash: Hash) -> Result<String, Refusal> {
 /// assert!(token.starts_with("eyJhbGciOiJIUzI1NiIsInR5cCI6IkpXVCJ9.e30."));
 /// # Ok::<(), Refusal>(())
 /// ```
-pub fn sign(keys: &[u8], wanted: &[u8], form: Form, payload: &[u8]) -> Result<String, Refusal> {
-    calls::sign(keys, wanted, form.flag(), payload).map(text)
+pub fn sign(keys: &[u8], template: &[u8], form: Form, payload: &[u8]) -> Result<String, Refusal> {
+    calls::sign(keys, template, form.flag(), payload).map(text)
 }
 
 /// Signs the payload with each of the keys, and returns the object without the payload (RFC 7515 appendix F).
@@ -203,11 +228,11 @@ pub fn sign(keys: &[u8], wanted: &[u8], form: Form, payload: &[u8]) -> Result<St
 /// ```
 pub fn sign_detached(
     keys: &[u8],
-    wanted: &[u8],
+    template: &[u8],
     form: Form,
     payload: &[u8],
 ) -> Result<String, Refusal> {
-    calls::sign(keys, wanted, form.flag() | calls::DETACH, payload).map(text)
+    calls::sign(keys, template, form.flag() | calls::DETACH, payload).map(text)
 }
 
 /// Verifies the object, and returns its payload (RFC 7515 section 5.2).
@@ -339,12 +364,12 @@ pub fn verify_all_detached(
 /// ```
 pub fn encrypt(
     keys: &[u8],
-    wanted: &[u8],
+    template: &[u8],
     form: Form,
     plaintext: &[u8],
 ) -> Result<String, Refusal> {
     Ok(text(
-        calls::encrypt(keys, wanted, form.flag(), plaintext)?.0,
+        calls::encrypt(keys, template, form.flag(), plaintext)?.0,
     ))
 }
 
@@ -366,12 +391,12 @@ pub fn encrypt(
 /// ```
 pub fn encrypt_detached(
     keys: &[u8],
-    wanted: &[u8],
+    template: &[u8],
     form: Form,
     plaintext: &[u8],
 ) -> Result<(String, Vec<u8>), Refusal> {
     let (object, ciphertext) =
-        calls::encrypt(keys, wanted, form.flag() | calls::DETACH, plaintext)?;
+        calls::encrypt(keys, template, form.flag() | calls::DETACH, plaintext)?;
     Ok((text(object), ciphertext))
 }
 

@@ -102,6 +102,50 @@ fn keys_that_verify_nothing() {
 }
 
 #[test]
+fn what_each_key_may_do() {
+    let wrapping = HS256_KEY.replace('{', r#"{"key_ops":["wrapKey"],"#);
+    for (text, uses) in [
+        (HS256_KEY.to_string(), "sv"),
+        (HS256_KEY.replace("HS256", "A256KW"), "ed"),
+        (
+            HS256_KEY.replace(r#""alg":"HS256","#, r#""key_ops":["verify"],"#),
+            "v",
+        ),
+        (wrapping.replace("HS256", "A256KW"), "e"),
+        (wrapping, ""),
+        (key_of('A', 22).replace('{', r#"{"use":"sig","#), ""),
+    ] {
+        let keys = keys_of(&text);
+        let may: Vec<bool> = "sved".chars().map(|use_| uses.contains(use_)).collect();
+        let can = [
+            keys.can_sign(),
+            keys.can_verify(),
+            keys.can_encrypt(),
+            keys.can_decrypt(),
+        ];
+        assert_eq!(can.to_vec(), may, "{text}");
+        let set = format!(r#"{{"keys":[{{"kty":"RSA"}},{text}]}}"#);
+        let judged = lakhdzeva::judge_keys(set.as_bytes()).unwrap();
+        assert_eq!(judged.len(), 2);
+        let bad = judged[0];
+        assert!(!bad.good && !bad.sign && !bad.verify && !bad.encrypt && !bad.decrypt);
+        let one = judged[1];
+        assert_eq!(
+            [one.good, one.sign, one.verify, one.encrypt, one.decrypt],
+            [true, can[0], can[1], can[2], can[3]]
+        );
+        assert_eq!(keys_of(&set).uses(), judged);
+    }
+    for (text, refusal) in [
+        ("{", Refusal::Json),
+        (r#"{"keys":[{}]}"#, Refusal::Key),
+        (&copies(HS256_KEY, 65), Refusal::Limit),
+    ] {
+        assert_eq!(lakhdzeva::judge_keys(text.as_bytes()), Err(refusal));
+    }
+}
+
+#[test]
 fn a_bad_token_is_no_fault() {
     let keys = keys_of(HS256_KEY);
     let signature = r#"{"protected":"eyJhbGciOiJIUzI1NiJ9","signature":"AAAA"}"#;

@@ -8,12 +8,12 @@ use std::collections::HashSet;
 
 #[test]
 fn no_two_keys_are_equal() {
-    for wanted in [
+    for template in [
         &br#"{"alg":"HS256"}"#[..],
         br#"{"bytes":65}"#,
         br#"{"bytes":4096}"#,
     ] {
-        let keys: HashSet<_> = (0..100).map(|_| generate(wanted).unwrap()).collect();
+        let keys: HashSet<_> = (0..100).map(|_| generate(template).unwrap()).collect();
         assert_eq!(keys.len(), 100);
     }
 }

@@ -17,15 +17,15 @@ fn long_member(characters: usize) -> String {
 #[test]
 fn keys() {
     for octets in (1..=130).chain([1000, 4094, 4095, 4096]) {
-        let wanted = format!(r#"{{"bytes":{octets}}}"#);
-        generate(wanted.as_bytes()).unwrap();
+        let template = format!(r#"{{"bytes":{octets}}}"#);
+        generate(template.as_bytes()).unwrap();
     }
     for size in HEADS {
-        let wanted = format!(
+        let template = format!(
             r#"{{"alg":"PBES2-HS512+A256KW","bytes":4096{}}}"#,
             long_member(size)
         );
-        generate(wanted.as_bytes()).unwrap();
+        generate(template.as_bytes()).unwrap();
     }
 }
 
@@ -124,8 +124,8 @@ fn encrypted_objects() {
         "A128GCM",
         "A256GCM",
     ] {
-        let wanted = format!(r#"{{"alg":"{alg}"}}"#);
-        let key = String::from_utf8(generate(wanted.as_bytes()).unwrap()).unwrap();
+        let template = format!(r#"{{"alg":"{alg}"}}"#);
+        let key = String::from_utf8(generate(template.as_bytes()).unwrap()).unwrap();
         encrypted_in_its_rooms(&key, "{}", 1);
     }
 }

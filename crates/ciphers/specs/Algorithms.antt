@@ -35,6 +35,10 @@ encryption_row A256Gcm = record { name = codes "A256GCM"; family = aes_gcm 8 }
 abbrev pub encryption_algs : List ContentAlg
 encryption_algs = A128CbcHs256 ∷ A192CbcHs384 ∷ A256CbcHs512 ∷ A128Gcm ∷ A192Gcm ∷ A256Gcm ∷ []
 
+-- AES in CBC mode with HMAC, by the length of the key (section 5.2)
+abbrev pub cbc_algs : List ContentAlg
+cbc_algs = A128CbcHs256 ∷ A192CbcHs384 ∷ A256CbcHs512 ∷ []
+
 abbrev pub content_family : ContentAlg → ContentFamily
 content_family enc = (encryption_row enc).family
 

@@ -1,8 +1,9 @@
 -- Content encryption (RFC 7518 sections 5.2 and 5.3).
-use Rattle.std.specs.Prelude.{◌≡◌, ℕ, ◌*◌, ◌/◌, ◌<◌, Option, None, Some, List, ◌++◌, length, take, drop}
+use Rattle.std.specs.Prelude.{◌≡◌, ℕ, ◌*◌, ◌/◌, ◌<◌, ◌==◌, Option, None, Some, List, ◌++◌, length, take, drop}
+use Rattle.std.specs.List.{find}
 use Rattle.std.specs.Option.{IsSomeAnd}
 use Rattle.aes.specs.Cipher.{encrypted_block}
-use Rattle.ciphers.specs.Algorithms.{ContentFamily, aes_cbc_hmac, aes_gcm, content_family}
+use Rattle.ciphers.specs.Algorithms.{ContentFamily, aes_cbc_hmac, aes_gcm, cbc_algs, content_family}
 use Rattle.ciphers.specs.declared.content_alg.ContentAlg.{ContentAlg}
 use Rattle.modes.specs.Cbc.{cbc, cbc_blocks}
 use Rattle.modes.specs.Gcm.{bit_length, gcm_ciphertext, gcm_tag, longest}
@@ -58,6 +59,10 @@ cek_len_in (aes_gcm nk) = 4 * nk
 
 abbrev pub cek_len : ContentAlg → ℕ
 cek_len alg = cek_len_in (content_family alg)
+
+-- the algorithm in CBC mode whose content encryption keys have n octets
+abbrev pub cbc_alg_with : ℕ → Option ContentAlg
+cbc_alg_with n = find (λ enc. n == cek_len enc) cbc_algs
 
 -- the length of an IV in octets: 128 bits (section 5.2.2.1) or 96 bits (section 5.3)
 abbrev pub iv_len_in : ContentFamily → ℕ

@@ -1,10 +1,13 @@
 //! AES-CBC with HMAC (RFC 7518 section 5.2), over any block cipher and hash function.
-ghost use Rattle.std.specs.Prelude.{◌≡◌, ℕ, ◌≤◌, List, [], length, take, IfSome, IfNone};
-ghost use Rattle.ciphers.specs.Sealing.{cbc_hmac, Opens};
+ghost use Rattle.std.specs.Prelude.{◌≡◌, ℕ, ◌*◌, ◌≤◌, List, [], length, take, IfSome, IfNone};
+ghost use Rattle.ciphers.specs.Algorithms.{aes_cbc_hmac, content_family};
+ghost use Rattle.ciphers.specs.Sealing.{Sealing, sealing_in, IsOpening};
 ghost use Rattle.ciphers.specs.Code.Views.{IsPaddingBehind};
+ghost use Rattle.ciphers.specs.declared.content_alg.ContentAlg.{ContentAlg};
 
 use crate::arrays::array;
 use crate::authentication::Authentication;
+use crate::kek::Keyed;
 use crate::sealer::Sealer;
 use aes::Block;
 use modes::{Cbc, cbc_open};
@@ -18,16 +21,20 @@ pub struct CbcHmac<B: Block, H: Hash> {
     authentication: Authentication<H>,
 }
 
-impl<B: Block, H: Hash> CbcHmac<B, H> {
+impl<B: Keyed, H: Hash> CbcHmac<B, H> {
     ghost use Rattle.ciphers.specs.Code.Views.{HoldsCbcHmac};
 
-    /// Starts the encryption, before any of the plaintext.
-    pub(crate) fn start(cipher: B, mac_key: &[u8], iv: &[u8], aad: &[u8]) -> CbcHmac<B, H>
-        requires { length iv.now ≡ 16 }
-        ensures { HoldsCbcHmac B.encrypted H.function H.holds result (cbc_hmac (B.encrypted cipher) H.function mac_key.now iv.now aad.now) [] }
+    /// Starts the encryption under a content encryption key, before any of the plaintext. The first half of this key is the MAC key, and the
+    /// second half is the AES key (section 5.2.2.1, step 1).
+    pub(crate) fn start(cek: &[u8], iv: &[u8], aad: &[u8]) -> CbcHmac<B, H>
+        requires cek_fits { length cek.now ≡ 8 * B.words }
+        requires iv_fits { length iv.now ≡ 16 }
+        ensures { (s : Sealing) → s ≡ sealing_in (aes_cbc_hmac B.words H.function) cek.now iv.now aad.now
+            → HoldsCbcHmac B.encrypted H.function H.holds result s [] }
     {
+        let (mac_key, key) = cek.split_at(cek.len() / 2);
         CbcHmac {
-            cbc: Cbc::start(cipher, &array(iv)),
+            cbc: Cbc::start(B::under(key), &array(iv)),
             authentication: Authentication::start(mac_key, iv, aad),
         }
     }
@@ -57,23 +64,24 @@ impl<B: Block, H: Hash> Sealer for CbcHmac<B, H> {
     ghost keeps_pace = { λ x s p r. r.pace };
 }
 
-/// Decrypts the ciphertext in `buf` if the tag is right (section 5.2.2.2).
-pub(crate) fn open_cbc_hmac<B: Block, H: Hash>(
-    cipher: &B,
-    mac_key: &[u8],
+/// Decrypts the ciphertext in `buf` if the tag is right (section 5.2.2.2). The halves of the content encryption key are those of `start`.
+pub(crate) fn open_cbc_hmac<B: Keyed, H: Hash>(
+    cek: &[u8],
     iv: &[u8],
     aad: &[u8],
     buf: &mut [u8],
     tag: &[u8],
 ) -> Option<usize>
-    requires { length iv.now ≡ 16 }
-    ensures opened { IfSome result (λ n. (n ≤ length buf.old)
-        × Opens (cbc_hmac (B.encrypted cipher.now) H.function mac_key.now iv.now aad.now) buf.old tag.now (take n buf.new)) }
+    requires cek_fits { length cek.now ≡ 8 * B.words }
+    requires iv_fits { length iv.now ≡ 16 }
+    ensures opened { (alg : ContentAlg) → content_family alg ≡ aes_cbc_hmac B.words H.function
+        → IfSome result (λ n. (n ≤ length buf.old) × IsOpening alg cek.now iv.now aad.now buf.old tag.now (take n buf.new)) }
     ensures rest { IfSome result (λ n. IsPaddingBehind n buf.old buf.new) }
-    ensures nothing { IfNone result ((p : List ℕ)
-        → Opens (cbc_hmac (B.encrypted cipher.now) H.function mac_key.now iv.now aad.now) buf.old tag.now p → ⊥) }
+    ensures nothing { (alg : ContentAlg) → content_family alg ≡ aes_cbc_hmac B.words H.function
+        → IfNone result ((p : List ℕ) → IsOpening alg cek.now iv.now aad.now buf.old tag.now p → ⊥) }
     ensures unchanged { IfNone result (buf.new ≡ buf.old) }
 {
+    let (mac_key, key) = cek.split_at(cek.len() / 2);
     let mut authentication = Authentication::<H>::start(mac_key, iv, aad);
     authentication.update(buf);
     let mut expected = [0; 32];
@@ -81,5 +89,5 @@ pub(crate) fn open_cbc_hmac<B: Block, H: Hash>(
     if !same_octets(&expected[..len], tag) {
         return None;
     }
-    cbc_open(cipher, &array(iv), buf)
+    cbc_open(&B::under(key), &array(iv), buf)
 }

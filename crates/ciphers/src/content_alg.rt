@@ -1,14 +1,15 @@
 //! The content encryption algorithms (RFC 7518 section 5.1).
 ghost use Rattle.std.specs.Prelude.{◌≡◌, ◌≤◌, ℕ, List, [], length, take, Some, IfSome, IfNone};
-ghost use Rattle.ciphers.specs.Algorithms.{encryption_name, encryption_alg_of};
-ghost use Rattle.ciphers.specs.Sealing.{cek_len, iv_len, sealing, Opens, IsOpening};
+ghost use Rattle.ciphers.specs.Algorithms.{encryption_algs, encryption_name, encryption_alg_of};
+ghost use Rattle.ciphers.specs.Sealing.{cek_len, cbc_alg_with, iv_len, sealing, IsOpening};
 ghost use Rattle.ciphers.specs.Code.Views.{IsPaddingBehind};
 
+use crate::arrays::array;
 use crate::cbc_hmac::{CbcHmac, open_cbc_hmac};
-use crate::kek::{aes128, aes192, aes256};
-use crate::sealer::{Sealer, open_gcm, start_gcm};
+use crate::kek::Keyed;
+use crate::sealer::{Sealer, start_gcm};
 use aes::{Aes128, Aes192, Aes256, Block};
-use modes::Gcm;
+use modes::{Gcm, gcm_open};
 use octets::{Refusal, SEALED_PIECE};
 use prf::{Hash, Sha256, Sha384, Sha512};
 
@@ -30,6 +31,20 @@ pub enum ContentAlg {
 }
 
 impl ContentAlg {
+    /// All of them.
+    pub fn all() -> &'static [ContentAlg]
+        ensures { result.now ≡ encryption_algs }
+    {
+        &[
+            ContentAlg::A128CbcHs256,
+            ContentAlg::A192CbcHs384,
+            ContentAlg::A256CbcHs512,
+            ContentAlg::A128Gcm,
+            ContentAlg::A192Gcm,
+            ContentAlg::A256Gcm,
+        ]
+    }
+
     /// The algorithm of this name.
     #[tactic(auto, unfolding(crate::specs::Algorithms::encryption_alg_of))]
     pub fn named(name: &str) -> Option<ContentAlg>
@@ -77,6 +92,18 @@ impl ContentAlg {
         }
     }
 
+    /// The algorithm in CBC with HMAC whose content encryption keys have so many octets (section 5.2).
+    pub fn cbc_with_cek_len(len: usize) -> Option<ContentAlg>
+        ensures { result ≡ cbc_alg_with len }
+    {
+        match len {
+            32 => Some(ContentAlg::A128CbcHs256),
+            48 => Some(ContentAlg::A192CbcHs384),
+            64 => Some(ContentAlg::A256CbcHs512),
+            _ => None,
+        }
+    }
+
     /// The length of its IVs in octets.
     pub fn iv_len(self) -> usize
         ensures { result ≡ iv_len self }
@@ -89,33 +116,26 @@ impl ContentAlg {
 
     /// Starts an encryption under the content encryption key, with the IV and the additional data. The caller must know that the key and
     /// the IV have the lengths of the algorithm.
+    #[tactic(auto, unfolding(crate::specs::Sealing::sealing))]
     pub fn seal(self, cek: &[u8], iv: &[u8], aad: &[u8]) -> ContentSealer
         requires cek_fits { length cek.now ≡ cek_len self }
         requires iv_fits { length iv.now ≡ iv_len self }
         ensures { ⟦<ContentSealer as Sealer>⟧.is_sealing result (sealing self cek.now iv.now aad.now) [] }
     {
         match self {
-            ContentAlg::A128CbcHs256 => {
-                let (mac_key, key) = cek.split_at(16);
-                ContentSealer::A128CbcHs256(CbcHmac::start(aes128(key), mac_key, iv, aad))
-            }
-            ContentAlg::A192CbcHs384 => {
-                let (mac_key, key) = cek.split_at(24);
-                ContentSealer::A192CbcHs384(CbcHmac::start(aes192(key), mac_key, iv, aad))
-            }
-            ContentAlg::A256CbcHs512 => {
-                let (mac_key, key) = cek.split_at(32);
-                ContentSealer::A256CbcHs512(CbcHmac::start(aes256(key), mac_key, iv, aad))
-            }
-            ContentAlg::A128Gcm => ContentSealer::A128Gcm(start_gcm(aes128(cek), iv, aad)),
-            ContentAlg::A192Gcm => ContentSealer::A192Gcm(start_gcm(aes192(cek), iv, aad)),
-            ContentAlg::A256Gcm => ContentSealer::A256Gcm(start_gcm(aes256(cek), iv, aad)),
+            ContentAlg::A128CbcHs256 => ContentSealer::A128CbcHs256(CbcHmac::start(cek, iv, aad)),
+            ContentAlg::A192CbcHs384 => ContentSealer::A192CbcHs384(CbcHmac::start(cek, iv, aad)),
+            ContentAlg::A256CbcHs512 => ContentSealer::A256CbcHs512(CbcHmac::start(cek, iv, aad)),
+            ContentAlg::A128Gcm => ContentSealer::A128Gcm(start_gcm(cek, iv, aad)),
+            ContentAlg::A192Gcm => ContentSealer::A192Gcm(start_gcm(cek, iv, aad)),
+            ContentAlg::A256Gcm => ContentSealer::A256Gcm(start_gcm(cek, iv, aad)),
         }
     }
 
     /// Decrypts the ciphertext in `buf` to the plaintext at its front, and returns the length of the plaintext. Its padding, if there is
     /// one, is behind it. Returns `None` and leaves `buf` unchanged if no plaintext has this ciphertext and tag, for example under a key or
     /// an IV of another length.
+    #[tactic(auto, unfolding(crate::specs::Sealing::sealing), using(crate::proofs::Openings::nothing_behind, crate::proofs::Openings::nothing_in_gcm))]
     pub fn open(
         self,
         cek: &[u8],
@@ -133,42 +153,13 @@ impl ContentAlg {
         if cek.len() != self.cek_len() || iv.len() != self.iv_len() {
             return None;
         }
-        self.open_fitting(cek, iv, aad, buf, tag)
-    }
-
-    /// Does the same under a key and an IV of the right lengths.
-    fn open_fitting(
-        self,
-        cek: &[u8],
-        iv: &[u8],
-        aad: &[u8],
-        buf: &mut [u8],
-        tag: &[u8],
-    ) -> Option<usize>
-        requires cek_fits { length cek.now ≡ cek_len self }
-        requires iv_fits { length iv.now ≡ iv_len self }
-        ensures opened { IfSome result (λ n. (n ≤ length buf.old)
-            × Opens (sealing self cek.now iv.now aad.now) buf.old tag.now (take n buf.new)) }
-        ensures rest { IfSome result (λ n. IsPaddingBehind n buf.old buf.new) }
-        ensures nothing { IfNone result ((p : List ℕ) → Opens (sealing self cek.now iv.now aad.now) buf.old tag.now p → ⊥) }
-        ensures unchanged { IfNone result (buf.new ≡ buf.old) }
-    {
         match self {
-            ContentAlg::A128CbcHs256 => {
-                let (mac_key, key) = cek.split_at(16);
-                open_cbc_hmac::<Aes128, Sha256>(&aes128(key), mac_key, iv, aad, buf, tag)
-            }
-            ContentAlg::A192CbcHs384 => {
-                let (mac_key, key) = cek.split_at(24);
-                open_cbc_hmac::<Aes192, Sha384>(&aes192(key), mac_key, iv, aad, buf, tag)
-            }
-            ContentAlg::A256CbcHs512 => {
-                let (mac_key, key) = cek.split_at(32);
-                open_cbc_hmac::<Aes256, Sha512>(&aes256(key), mac_key, iv, aad, buf, tag)
-            }
-            ContentAlg::A128Gcm => open_gcm(&aes128(cek), iv, aad, buf, tag),
-            ContentAlg::A192Gcm => open_gcm(&aes192(cek), iv, aad, buf, tag),
-            ContentAlg::A256Gcm => open_gcm(&aes256(cek), iv, aad, buf, tag),
+            ContentAlg::A128CbcHs256 => open_cbc_hmac::<Aes128, Sha256>(cek, iv, aad, buf, tag),
+            ContentAlg::A192CbcHs384 => open_cbc_hmac::<Aes192, Sha384>(cek, iv, aad, buf, tag),
+            ContentAlg::A256CbcHs512 => open_cbc_hmac::<Aes256, Sha512>(cek, iv, aad, buf, tag),
+            ContentAlg::A128Gcm => gcm_open(&Aes128::under(cek), &array(iv), aad, buf, tag),
+            ContentAlg::A192Gcm => gcm_open(&Aes192::under(cek), &array(iv), aad, buf, tag),
+            ContentAlg::A256Gcm => gcm_open(&Aes256::under(cek), &array(iv), aad, buf, tag),
         }
     }
 }

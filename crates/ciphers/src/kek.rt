@@ -1,5 +1,5 @@
 //! AES under a key encryption key of any length, and the ways to deliver a content encryption key.
-ghost use Rattle.std.specs.Prelude.{◌≡◌, length};
+ghost use Rattle.std.specs.Prelude.{◌≡◌, ℕ, ◌*◌, length};
 ghost use Rattle.aes.specs.Cipher.{encrypted_block};
 
 use crate::arrays::array;
@@ -50,26 +50,37 @@ impl Block for Kek {
     ghost is_cipher = { on_each_kek (λ k. k.is_cipher) (λ k. k.is_cipher) (λ k. k.is_cipher) };
 }
 
-/// AES-128 under this key.
-pub(crate) fn aes128(key: &[u8]) -> Aes128
-    requires { length key.now ≡ 16 }
-    ensures { ⟦<Aes128 as Block>⟧.encrypted result ≡ encrypted_block 4 key.now }
-{
-    Aes128::new(&array(key))
+/// A cipher with a key of one length.
+pub(crate) trait Keyed: Block + Sized {
+    /// How many words of 32 bits its key has (FIPS 197 section 5).
+    ghost words: { ℕ };
+
+    /// The cipher under this key.
+    fn under(key: &[u8]) -> Self
+        requires { length key.now ≡ 4 * words }
+        ensures { Self.encrypted result ≡ encrypted_block words key.now };
 }
 
-/// AES-192 under this key.
-pub(crate) fn aes192(key: &[u8]) -> Aes192
-    requires { length key.now ≡ 24 }
-    ensures { ⟦<Aes192 as Block>⟧.encrypted result ≡ encrypted_block 6 key.now }
-{
-    Aes192::new(&array(key))
+impl Keyed for Aes128 {
+    ghost words = { 4 };
+
+    fn under(key: &[u8]) -> Aes128 {
+        Aes128::new(&array(key))
+    }
 }
 
-/// AES-256 under this key.
-pub(crate) fn aes256(key: &[u8]) -> Aes256
-    requires { length key.now ≡ 32 }
-    ensures { ⟦<Aes256 as Block>⟧.encrypted result ≡ encrypted_block 8 key.now }
-{
-    Aes256::new(&array(key))
+impl Keyed for Aes192 {
+    ghost words = { 6 };
+
+    fn under(key: &[u8]) -> Aes192 {
+        Aes192::new(&array(key))
+    }
+}
+
+impl Keyed for Aes256 {
+    ghost words = { 8 };
+
+    fn under(key: &[u8]) -> Aes256 {
+        Aes256::new(&array(key))
+    }
 }

@@ -1,6 +1,6 @@
 //! The algorithms of key management (RFC 7518 sections 4.4, 4.5, 4.7 and 4.8).
 ghost use Rattle.std.specs.Prelude.{◌≡◌, ℕ, ◌%◌, ◌≤◌, List, [], length, take, drop, Some, IfSome, IfNone};
-ghost use Rattle.ciphers.specs.Algorithms.{management_name, management_alg_of, mode_of, kek_len, is_password_based};
+ghost use Rattle.ciphers.specs.Algorithms.{management_algs, management_name, management_alg_of, mode_of, kek_len, is_password_based};
 ghost use Rattle.ciphers.specs.Delivery.{way_of, encrypted_key_of, key_tag_of, IsDelivered};
 ghost use Rattle.ciphers.specs.Code.Demands.{IsKeyOf, IsCountOf, IsIvOf, IsSaltOf, iteration_count};
 ghost use Rattle.ciphers.specs.KeyWrap.{IsUnwrapping};
@@ -12,10 +12,10 @@ ghost use Rattle.modes.specs.Code.Opening.{IsGcmOpening};
 use crate::arrays::array;
 use crate::cek::Cek;
 use crate::content_alg::ContentAlg;
-use crate::kek::{Kek, Way, aes128, aes192, aes256};
+use crate::kek::{Kek, Keyed, Way};
 use crate::key_wrap::{unwrap, wrap};
 use crate::salted_key::SaltedKey;
-use aes::Block;
+use aes::{Aes128, Aes192, Aes256, Block};
 use modes::{Gcm, gcm_open};
 use octets::SEALED_PIECE;
 
@@ -69,6 +69,24 @@ pub struct KeyParameters<'p> {
 }
 
 impl KeyAlg {
+    /// All of them.
+    pub fn all() -> &'static [KeyAlg]
+        ensures { result.now ≡ management_algs }
+    {
+        &[
+            KeyAlg::Dir,
+            KeyAlg::A128Kw,
+            KeyAlg::A192Kw,
+            KeyAlg::A256Kw,
+            KeyAlg::Pbes2Hs256A128Kw,
+            KeyAlg::Pbes2Hs384A192Kw,
+            KeyAlg::Pbes2Hs512A256Kw,
+            KeyAlg::A128GcmKw,
+            KeyAlg::A192GcmKw,
+            KeyAlg::A256GcmKw,
+        ]
+    }
+
     /// The algorithm of this name.
     #[tactic(auto, unfolding(crate::specs::Algorithms::management_alg_among))]
     pub fn named(name: &str) -> Option<KeyAlg>
@@ -245,23 +263,23 @@ impl KeyAlg {
     {
         match self {
             KeyAlg::Dir => Way::Direct,
-            KeyAlg::A128Kw => Way::Wrap(Kek::A128(aes128(key.octets())), 0),
-            KeyAlg::A192Kw => Way::Wrap(Kek::A192(aes192(key.octets())), 0),
-            KeyAlg::A256Kw => Way::Wrap(Kek::A256(aes256(key.octets())), 0),
-            KeyAlg::A128GcmKw => Way::Encrypt(Kek::A128(aes128(key.octets()))),
-            KeyAlg::A192GcmKw => Way::Encrypt(Kek::A192(aes192(key.octets()))),
-            KeyAlg::A256GcmKw => Way::Encrypt(Kek::A256(aes256(key.octets()))),
+            KeyAlg::A128Kw => Way::Wrap(Kek::A128(Aes128::under(key.octets())), 0),
+            KeyAlg::A192Kw => Way::Wrap(Kek::A192(Aes192::under(key.octets())), 0),
+            KeyAlg::A256Kw => Way::Wrap(Kek::A256(Aes256::under(key.octets())), 0),
+            KeyAlg::A128GcmKw => Way::Encrypt(Kek::A128(Aes128::under(key.octets()))),
+            KeyAlg::A192GcmKw => Way::Encrypt(Kek::A192(Aes192::under(key.octets()))),
+            KeyAlg::A256GcmKw => Way::Encrypt(Kek::A256(Aes256::under(key.octets()))),
             KeyAlg::Pbes2Hs256A128Kw => {
-                let (derived, calls) = key.derive_hs256(parameters.p2c);
-                Way::Wrap(Kek::A128(aes128(&derived)), calls)
+                let (derived, calls) = key.derive_by_sha256(parameters.p2c);
+                Way::Wrap(Kek::A128(Aes128::under(&derived)), calls)
             }
             KeyAlg::Pbes2Hs384A192Kw => {
-                let (derived, calls) = key.derive_hs384(parameters.p2c);
-                Way::Wrap(Kek::A192(aes192(&derived)), calls)
+                let (derived, calls) = key.derive_by_sha384(parameters.p2c);
+                Way::Wrap(Kek::A192(Aes192::under(&derived)), calls)
             }
             KeyAlg::Pbes2Hs512A256Kw => {
-                let (derived, calls) = key.derive_hs512(parameters.p2c);
-                Way::Wrap(Kek::A256(aes256(&derived)), calls)
+                let (derived, calls) = key.derive_by_sha512(parameters.p2c);
+                Way::Wrap(Kek::A256(Aes256::under(&derived)), calls)
             }
         }
     }

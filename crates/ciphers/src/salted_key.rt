@@ -61,7 +61,7 @@ impl<'a> SaltedKey<'a> {
     }
 
     /// The key that PBES2-HS256+A128KW derives. The number counts the HMAC calls.
-    pub(crate) fn derive_hs256(&mut self, p2c: u32) -> ([u8; 16], u64)
+    pub(crate) fn derive_by_sha256(&mut self, p2c: u32) -> ([u8; 16], u64)
         requires { 1 ≤ p2c }
         ensures key { result.0 ≡ derived_key sha256_function (codes "PBES2-HS256+A128KW") 16 self.old.key self.old.p2s p2c }
         ensures calls { result.1 ≡ p2c }
@@ -73,7 +73,7 @@ impl<'a> SaltedKey<'a> {
     }
 
     /// The key that PBES2-HS384+A192KW derives. The number counts the HMAC calls.
-    pub(crate) fn derive_hs384(&mut self, p2c: u32) -> ([u8; 24], u64)
+    pub(crate) fn derive_by_sha384(&mut self, p2c: u32) -> ([u8; 24], u64)
         requires { 1 ≤ p2c }
         ensures key { result.0 ≡ derived_key sha384_function (codes "PBES2-HS384+A192KW") 24 self.old.key self.old.p2s p2c }
         ensures calls { result.1 ≡ p2c }
@@ -85,7 +85,7 @@ impl<'a> SaltedKey<'a> {
     }
 
     /// The key that PBES2-HS512+A256KW derives. The number counts the HMAC calls.
-    pub(crate) fn derive_hs512(&mut self, p2c: u32) -> ([u8; 32], u64)
+    pub(crate) fn derive_by_sha512(&mut self, p2c: u32) -> ([u8; 32], u64)
         requires { 1 ≤ p2c }
         ensures key { result.0 ≡ derived_key sha512_function (codes "PBES2-HS512+A256KW") 32 self.old.key self.old.p2s p2c }
         ensures calls { result.1 ≡ p2c }

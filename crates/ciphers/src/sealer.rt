@@ -1,11 +1,13 @@
 //! Encryptions of content that comes in pieces (RFC 7516 section 5.1, step 15).
-ghost use Rattle.std.specs.Prelude.{◌≡◌, ◌↔◌, ℕ, ◌≤◌, List, [], ◌++◌, length, take, drop, IfSome, IfNone, IfOk, IfErr, IsErr, OnOk, OnErr};
+ghost use Rattle.std.specs.Prelude.{◌≡◌, ◌↔◌, ℕ, ◌*◌, ◌≤◌, List, [], ◌++◌, length, take, drop, IfOk, IfErr, IsErr, OnOk, OnErr};
 ghost use Rattle.ciphers.specs.Code.Views.{KeepsPace, HoldsGcmSealing};
-ghost use Rattle.ciphers.specs.Sealing.{Sealing, IsTooLong, gcm, Opens};
+ghost use Rattle.ciphers.specs.Algorithms.{aes_gcm};
+ghost use Rattle.ciphers.specs.Sealing.{Sealing, IsTooLong, sealing_in};
 
 use crate::arrays::array;
+use crate::kek::Keyed;
 use aes::Block;
-use modes::{Gcm, gcm_open};
+use modes::Gcm;
 use octets::{PIECE, Refusal, SEALED_PIECE};
 
 /// The encryption of a plaintext that comes in pieces.
@@ -43,12 +45,13 @@ pub trait Sealer: Drop {
     ghost keeps_pace: { (x : Self) (s : Sealing) (p : List ℕ) → is_sealing x s p → KeepsPace s p };
 }
 
-/// Starts an encryption by AES-GCM, before any of the plaintext.
-pub(crate) fn start_gcm<B: Block>(cipher: B, iv: &[u8], aad: &[u8]) -> Gcm<B>
-    requires { length iv.now ≡ 12 }
-    ensures { HoldsGcmSealing B.encrypted result (gcm (B.encrypted cipher) iv.now aad.now) [] }
+/// Starts an encryption by AES-GCM under a content encryption key, before any of the plaintext.
+pub(crate) fn start_gcm<B: Keyed>(cek: &[u8], iv: &[u8], aad: &[u8]) -> Gcm<B>
+    requires cek_fits { length cek.now ≡ 4 * B.words }
+    requires iv_fits { length iv.now ≡ 12 }
+    ensures { (s : Sealing) → s ≡ sealing_in (aes_gcm B.words) cek.now iv.now aad.now → HoldsGcmSealing B.encrypted result s [] }
 {
-    Gcm::start(cipher, &array(iv), aad)
+    Gcm::start(B::under(cek), &array(iv), aad)
 }
 
 impl<B: Block> Sealer for Gcm<B> {
@@ -64,22 +67,4 @@ impl<B: Block> Sealer for Gcm<B> {
     }
 
     ghost keeps_pace = { λ x s p r. r.pace };
-}
-
-/// Decrypts the ciphertext in `buf` if the tag is right (RFC 7518 section 5.3).
-pub(crate) fn open_gcm<B: Block>(
-    cipher: &B,
-    iv: &[u8],
-    aad: &[u8],
-    buf: &mut [u8],
-    tag: &[u8],
-) -> Option<usize>
-    requires { length iv.now ≡ 12 }
-    ensures opened { IfSome result (λ n. (n ≤ length buf.old)
-        × Opens (gcm (B.encrypted cipher.now) iv.now aad.now) buf.old tag.now (take n buf.new)) }
-    ensures whole { IfSome result (λ n. n ≡ length buf.old) }
-    ensures nothing { IfNone result ((p : List ℕ) → Opens (gcm (B.encrypted cipher.now) iv.now aad.now) buf.old tag.now p → ⊥) }
-    ensures unchanged { IfNone result (buf.new ≡ buf.old) }
-{
-    gcm_open(cipher, &array(iv), aad, buf, tag)
 }

@@ -18,3 +18,4 @@ pub mod Streamed
 pub mod Headline
 pub mod Invoked
 pub mod WiderLimits
+pub mod Lemmas

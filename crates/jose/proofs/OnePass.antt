@@ -19,7 +19,7 @@ use Rattle.jose.proofs.Draws.{none_drawn, nothing_drawn}
 use Rattle.jose.proofs.Objects.{planned_of_object}
 
 -- The failures of the inputs are reported in the order of a run's inputs.
-told_in_order : {E : Type 0} (failures : E → ℕ) (outs : Outputs E) (text keys content random : Counts) (r : Result (Unit {0}) Refusal) → random.new ≡ random.old
+pub told_in_order : {E : Type 0} (failures : E → ℕ) (outs : Outputs E) (text keys content random : Counts) (r : Result (Unit {0}) Refusal) → random.new ≡ random.old
     → TellsFaults (text ∷ keys ∷ content ∷ []) [] r
     → TellsFaults (text ∷ content ∷ keys ∷ random ∷ []) (output_counts failures outs outs) r
 told_in_order failures outs text keys content random (Ok done) same told = record {

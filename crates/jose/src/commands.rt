@@ -21,15 +21,15 @@ use std::alloc::Global;
 
 /// All that was read from the inputs of a command. Nothing was read from an input that the command does not use.
 #[derive(Drop)]
-struct WholeInputs {
-    text: Vec<u8>,
-    keys: Vec<u8>,
-    content: Option<Vec<u8>>,
+pub struct WholeInputs {
+    pub text: Vec<u8>,
+    pub keys: Vec<u8>,
+    pub content: Option<Vec<u8>>,
 }
 
 /// Which inputs a command reads to their end.
 #[derive(Clone, Copy)]
-enum Wanted {
+pub enum Wanted {
     /// The text alone.
     Text,
     /// The text of a template, and the keys.
@@ -63,7 +63,7 @@ impl Wanted {
 }
 
 /// Reads the text to its end, then the keys if they are wanted, and then the content if it is wanted.
-fn read_inputs<I: Input>(
+pub fn read_inputs<I: Input>(
     alloc: Global,
     wanted: Wanted,
     inputs: &mut Inputs<I>,
@@ -121,7 +121,7 @@ fn read_detached<I: Input>(
 }
 
 /// Reads the content to its end and keeps none of it. Fails with `Read` if the content fails.
-fn read_past<I: Input>(content: &mut I) -> Result<(), Refusal>
+pub fn read_past<I: Input>(content: &mut I) -> Result<(), Refusal>
     requires { IsFinite (I.remaining content.old) }
     ensures ends { OnOk result (IsTrue (I.is_at_end content.new)) }
     ensures cause { OnErr result (result ≡ Err Refusal.Read) }

@@ -31,7 +31,7 @@ const MODE: u32 = 0o666;
 
 /// The origin of the octets of an input.
 #[derive(Drop)]
-pub(crate) enum Source<'a, R: ReadFiles> {
+pub enum Source<'a, R: ReadFiles> {
     /// JSON that was given in the words, or nothing.
     Words(&'a [u8]),
     Standard(Stdin),
@@ -105,7 +105,7 @@ impl<'a, R: ReadFiles> Read for Source<'a, R> {
 
 /// The destination of the octets of an output.
 #[derive(Drop)]
-pub(crate) enum Sink<'a, R: WriteFiles> {
+pub enum Sink<'a, R: WriteFiles> {
     /// There is no such option. Everything that is written is accepted and discarded.
     Nowhere,
     Standard(Stdout),
@@ -114,7 +114,7 @@ pub(crate) enum Sink<'a, R: WriteFiles> {
 
 /// A file that is opened and cut when it is first written or flushed.
 #[derive(Drop)]
-pub(crate) struct OutputFile<'a, R: WriteFiles> {
+pub struct OutputFile<'a, R: WriteFiles> {
     files: &'a R,
     name: OutputName<'a>,
     purpose: Purpose,
@@ -123,7 +123,7 @@ pub(crate) struct OutputFile<'a, R: WriteFiles> {
 
 /// The purpose of an output file.
 #[derive(Clone, Copy)]
-pub(crate) enum Purpose {
+pub enum Purpose {
     /// Octets that others may read.
     Public,
     /// Decrypted octets, for their owner alone.
@@ -210,7 +210,7 @@ fn synchronize<R: WriteFiles>(files: &R, file: &R::File) -> io::Result<()>
 }
 
 /// The inputs that the options name. Without `-R` the random octets are those of the system.
-pub(crate) fn inputs<'a, R: ReadFiles>(
+pub fn inputs<'a, R: ReadFiles>(
     files: &'a R,
     standard: Stdin,
     invocation: &'a Invocation,
@@ -295,7 +295,7 @@ fn source_of<'a, R: ReadFiles>(
 
 /// The outputs that the options name. Neither may be the file of the content that is read while it is written, or that of the keys. The
 /// text may not be the file of the detached content either, which is written before it.
-pub(crate) fn outputs<'a, R: System>(
+pub fn outputs<'a, R: System>(
     files: &'a R,
     standard: Stdout,
     invocation: &'a Invocation,

@@ -21,9 +21,10 @@ mod ports;
 mod system;
 mod words;
 
-use crate::system::{ReadFiles, System};
+pub use commands::{Wanted, WholeInputs, read_inputs, read_past};
 pub use ending::report;
 pub use entry::run;
+pub use files::{Sink, Source, inputs, outputs};
 use octets::{Refusal, WriterOutput};
 pub use ports::{Inputs, Outputs};
 use std::alloc::Global;
@@ -31,6 +32,7 @@ use std::io;
 use std::io::{Stdin, Stdout};
 use std::os::fd::AsRawFd;
 use std::process::ExitCode;
+pub use system::{ReadFiles, System, WriteFiles};
 pub use words::invocation::{Invocation, Setting};
 pub use words::parse;
 pub use words::table::Command;
@@ -64,6 +66,22 @@ fn if_standard<F: AsRawFd + Drop>(file: F) -> Option<F>
     matches!(file.as_raw_fd(), 0..=2).then_some(file)
 }
 
+/// Holds a folder in place of each standard stream that is closed. As long as they are held, no file gets the number of such a stream.
+pub fn placeholders<S: ReadFiles>(
+    system: &S,
+) -> Result<(Option<S::File>, Option<S::File>, Option<S::File>), Refusal>
+where
+    S::File: AsRawFd,
+    ensures held { IfOk result (AreHeld (S.open_gives system.now) S.File.raw_fd) }
+    ensures memory { IfErr result (λ refusal. refusal ≡ Refusal.Memory) }
+{
+    Ok((
+        placeholder(system, FOLDERS)?,
+        placeholder(system, FOLDERS)?,
+        placeholder(system, FOLDERS)?,
+    ))
+}
+
 /// Reads the words and does what they ask, over files and the standard streams. Words that are not UTF-8 are no command.
 fn perform<S: System>(
     alloc: Global,
@@ -75,11 +93,7 @@ where
     S::File: AsRawFd,
     ensures { result ≡ Err Refusal.Memory ⊎ ((args : Answer (List Text) Cause) × (S.args_gives system.now args × Performs S S.Uncut S.File args result)) }
 {
-    let held = (
-        placeholder(system, FOLDERS)?,
-        placeholder(system, FOLDERS)?,
-        placeholder(system, FOLDERS)?,
-    );
+    let held = placeholders(system)?;
     let args = system.args()?;
     let [_name, words @ ..] = args.as_slice() else {
         return Err(Refusal::Usage);

@@ -26,7 +26,7 @@ const STANDARD_OUTPUT: &str = "/proc/self/fd/1";
 
 /// A file that can be examined: that of a standard stream, whatever its name, or that of a name.
 #[derive(Clone, Copy)]
-pub(crate) enum Place<'a> {
+pub enum Place<'a> {
     StandardInput,
     StandardOutput,
     Named(&'a str),
@@ -34,7 +34,7 @@ pub(crate) enum Place<'a> {
 
 /// A file under any of its names, whose octets an output could overwrite.
 #[derive(Clone, Copy)]
-pub(crate) enum FileId {
+pub enum FileId {
     /// A regular file: the device that it is on, and its inode number there.
     Regular(u64, u64),
     /// A block device: its number.
@@ -43,14 +43,14 @@ pub(crate) enum FileId {
 
 /// What the system says of a file: which it is, unless it is neither regular nor a block device, and whether it is known to hold nothing.
 #[derive(Clone, Copy)]
-pub(crate) struct Status {
-    pub(crate) file: Option<FileId>,
-    pub(crate) is_empty: bool,
+pub struct Status {
+    pub file: Option<FileId>,
+    pub is_empty: bool,
 }
 
 /// The name of an output file, the mode that it gets if it is created, and the files that it must not be.
 #[derive(Drop)]
-pub(crate) struct OutputName<'a> {
+pub struct OutputName<'a> {
     path: &'a str,
     mode: u32,
     others: [Option<Place<'a>>; 3],
@@ -66,9 +66,9 @@ impl<'a> OutputName<'a> {
 
 /// An output file that is open and was not cut. Nothing can be written to it.
 #[derive(Drop)]
-pub(crate) struct UncutFile(File);
+pub struct UncutFile(File);
 
-pub(crate) trait ReadFiles {
+pub trait ReadFiles {
     type File: Read + Write + Drop;
 
     ghost open_gives: { Self → Text → Result Self.File Error → Type 0 };
@@ -84,7 +84,7 @@ pub(crate) trait ReadFiles {
         ensures { device_gives self.now path.now result };
 }
 
-pub(crate) trait WriteFiles: ReadFiles {
+pub trait WriteFiles: ReadFiles {
     /// An output file that is open and was not cut.
     type Uncut: Drop;
 
@@ -121,7 +121,7 @@ pub(crate) trait WriteFiles: ReadFiles {
         ensures { sync_gives self.now file.now result };
 }
 
-pub(crate) trait System: WriteFiles {
+pub trait System: WriteFiles {
     ghost args_gives: { Self → Result (List Text) Cause → Type 0 };
 
     /// Returns the program's arguments, the program's name first. Refuses with `Usage` if one of them is not UTF-8.

@@ -12,6 +12,7 @@ pub mod ValuesRead
 pub mod UrlTexts
 pub mod Strings
 pub mod KeyLists
+pub mod SetMembers
 pub mod Depths
 pub mod KeyMembers
 pub mod MadeFloats

@@ -1,6 +1,6 @@
 -- The algorithms of signatures (RFC 7518 section 3.1), and what every algorithm asks of a key: its name, its length, and the operations that
 -- it serves.
-use Rattle.std.specs.Prelude.{ℕ, ◌==◌, Bool, true, false, List, [], ◌∷◌, codes, nat_le, Option, Some, None, option_map, Result}
+use Rattle.std.specs.Prelude.{ℕ, ◌==◌, Bool, true, List, [], ◌∷◌, codes, nat_le, Option, Some, None, option_map, Result}
 use Rattle.std.specs.List.{find}
 use Rattle.std.specs.Option.{option_or, ok_or}
 use Rattle.std.specs.Str.{bytes_eq}
@@ -49,6 +49,10 @@ signature_hash alg = (signature_row alg).hash
 -- the octets of the hash: the length of a signature, and the least length of a key (section 3.2)
 abbrev pub hash_len : SignatureAlg → ℕ
 hash_len alg = (signature_hash alg).output_len
+
+-- the one with the longest hash that a key of n octets is long enough for
+abbrev pub longest_alg_for : ℕ → Option SignatureAlg
+longest_alg_for n = find (λ alg. nat_le (hash_len alg) n) (Hs512 ∷ Hs384 ∷ Hs256 ∷ [])
 
 -- the algorithm of a name
 unfoldable pub signature_alg_of : List ℕ → Option SignatureAlg

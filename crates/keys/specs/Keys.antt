@@ -1,5 +1,5 @@
 -- Octet keys (RFC 7517 section 4, RFC 7518 section 6.4), what they allow and which algorithms they fit.
-use Rattle.std.specs.Prelude.{ℕ, ◌&&◌, Bool, true, List, length, codes, nat_le, Option, Some, None, Result, Ok, Err}
+use Rattle.std.specs.Prelude.{ℕ, ◌&&◌, Bool, true, List, length, codes, nat_le, Option, Some, None, Result, Ok}
 use Rattle.std.specs.List.{AllByRecursion, list_any}
 use Rattle.std.specs.Str.{bytes_eq}
 use Rattle.serde_json.specs.Data.{Data}

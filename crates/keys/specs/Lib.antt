@@ -15,6 +15,8 @@ pub mod Operations
 pub mod Keys
 -- sets of keys
 pub mod KeySets
+-- the members of a text of keys, good and bad
+pub mod SetMembers
 -- thumbprints
 pub mod Thumbprints
 -- keys that are made

@@ -1,7 +1,7 @@
 //! The algorithms of signatures, and what every algorithm asks of a key: its name, its length, and the operations that it serves. It sees no
 //! key and no JSON.
 ghost use Rattle.std.specs.Prelude.{◌≡◌, ◌≤◌, true, Some};
-ghost use Rattle.keys.specs.Algorithms.{signature_name, signature_alg_of, named_alg_of, hash_len, management_key_len, key_len, named_key_len, has_len, usual_len, operations};
+ghost use Rattle.keys.specs.Algorithms.{signature_algs, signature_name, signature_alg_of, longest_alg_for, named_alg_of, hash_len, management_key_len, key_len, named_key_len, has_len, usual_len, operations};
 ghost use Rattle.keys.specs.Generating.{is_within_limit};
 ghost use Rattle.keys.specs.Limits.{limits};
 
@@ -43,6 +43,17 @@ pub(crate) enum KeyLen {
 }
 
 impl SignatureAlg {
+    /// All of them.
+    pub fn all() -> &'static [SignatureAlg]
+        ensures { result.now ≡ signature_algs }
+    {
+        &[
+            SignatureAlg::Hs256,
+            SignatureAlg::Hs384,
+            SignatureAlg::Hs512,
+        ]
+    }
+
     /// The algorithm of this name.
     #[tactic(auto, unfolding(crate::specs::Algorithms::signature_alg_of))]
     pub fn named(name: &str) -> Option<SignatureAlg>
@@ -66,6 +77,21 @@ impl SignatureAlg {
             SignatureAlg::Hs256 => "HS256",
             SignatureAlg::Hs384 => "HS384",
             SignatureAlg::Hs512 => "HS512",
+        }
+    }
+
+    /// The algorithm with the longest hash that a key of so many octets is long enough for (RFC 7518 section 3.2).
+    pub fn longest_for(key_len: usize) -> Option<SignatureAlg>
+        ensures { result ≡ longest_alg_for key_len }
+    {
+        if key_len >= 64 {
+            Some(SignatureAlg::Hs512)
+        } else if key_len >= 48 {
+            Some(SignatureAlg::Hs384)
+        } else if key_len >= 32 {
+            Some(SignatureAlg::Hs256)
+        } else {
+            None
         }
     }
 

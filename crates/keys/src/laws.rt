@@ -4,6 +4,7 @@ ghost use Rattle.keys.specs.Json.{KeepFloatsOut};
 ghost use Rattle.keys.specs.JsonTexts.{CompactTextReadsBack, DeepTextsAreRefused, KeepJson, ReadsJson, UrlTextsAreJson};
 ghost use Rattle.keys.specs.Keys.{AreOctetKeys};
 ghost use Rattle.keys.specs.KeySets.{KeysHaveOctets};
+ghost use Rattle.keys.specs.SetMembers.{KeysAreGoodMembers};
 ghost use Rattle.keys.specs.Limits.{limits};
 
 use crate::set::KeySet;
@@ -52,4 +53,9 @@ pub fn url_texts_are_json()
 /// The keys of a key text have octets.
 pub fn keys_have_octets()
     ensures { KeysHaveOctets }
+{}
+
+/// The keys of a text, without its bad ones, are the good members of the text in order.
+pub fn keys_are_good_members()
+    ensures { KeysAreGoodMembers }
 {}

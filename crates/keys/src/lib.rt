@@ -32,7 +32,7 @@ pub use limits::{
     MOST_KEYS, MOST_RECIPIENTS, USUAL_P2C,
 };
 pub use operation::Operation;
-pub use set::{KeySet, are_objects};
+pub use set::{KeySet, are_objects, read_members};
 pub use strict_json::{
     has_only, is_object, members_have_whole_numbers, nests_at_most, object_nests_at_most, read_json,
 };

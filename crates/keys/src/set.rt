@@ -1,8 +1,11 @@
 //! Keys and sets of keys (RFC 7517 section 5), read from a key text.
-ghost use Rattle.std.specs.Prelude.{◌≡◌, ◌≤◌, IfOk, length, map};
+ghost use Rattle.std.specs.Prelude.{◌≡◌, ◌≤◌, IfOk, IfErr, is_some, length, map, option_map};
+ghost use Rattle.std.specs.List.{list_any};
+ghost use Rattle.octets.specs.declared.refusal.Refusal.{Refusal};
 ghost use Rattle.serde_json.specs.View.{view, items_view};
 ghost use Rattle.octets.specs.Code.Results.{Agrees, AgreesUnlessMemory};
 ghost use Rattle.keys.specs.KeySets.{key_set, value_keys, key_objects, octet_keys, are_objects};
+ghost use Rattle.keys.specs.SetMembers.{key_members, members_of};
 ghost use Rattle.keys.specs.Keys.{AreOctetKeys};
 ghost use Rattle.keys.specs.Limits.{limits};
 ghost use Rattle.keys.specs.Code.Views.{key_view};
@@ -59,6 +62,44 @@ impl KeySet {
     {
         &self.keys
     }
+}
+
+/// The members of a JSON text of keys, in order: those of a set, or the key that is alone. A member is `None` if it is no good octet key. At
+/// least one is good. Refuses as `KeySet::read` does without `strict`. May fail with `Memory`.
+#[tactic(auto, unfolding(crate::specs::SetMembers::key_members), using(crate::proofs::KeyLists::items_counted, crate::proofs::SetMembers::some_viewed))]
+pub fn read_members(alloc: Global, text: &[u8]) -> Result<Vec<Option<Key>>, Refusal>
+    ensures { AgreesUnlessMemory (λ members. map (option_map key_view) members.items) result (key_members limits text.now) }
+{
+    let value = read_json(alloc, text)?;
+    let objects = key_objects(&value)?;
+    let few = objects.len() <= MOST_KEYS;
+    needs(few, Refusal::Limit)?;
+    let members = members_of(alloc, objects)?;
+    needs(has_good(&members), Refusal::Key)?;
+    Ok(members)
+}
+
+/// Whether some member is a good key.
+fn has_good(members: &[Option<Key>]) -> bool
+    ensures { result ≡ list_any (λ member. is_some (option_map key_view member)) members.now }
+{
+    members.iter().any(|member| member.is_some())
+}
+
+/// The key of each object, or `None` if it is bad.
+fn members_of(alloc: Global, objects: &[Value]) -> Result<Vec<Option<Key>>, Refusal>
+    ensures exact { IfOk result (λ members. map (option_map key_view) members.items ≡ members_of limits (items_view objects.now)) }
+    ensures memory { IfErr result (λ e. e ≡ Refusal.Memory) }
+{
+    let mut members = Vec::new(alloc);
+    for value in objects {
+        match read_key(alloc, value) {
+            Ok(key) => members.push(Some(key))?,
+            Err(Refusal::Memory) => return Err(Refusal::Memory),
+            Err(_) => members.push(None)?,
+        }
+    }
+    Ok(members)
 }
 
 /// The good octet keys of the value, at least one.

@@ -1,5 +1,5 @@
 -- What the calls answer, in the words of the commands' definitions.
-use Rattle.std.specs.Prelude.{ℕ, ◌==◌, Bool, true, false, if◌then◌else◌, List, Option, Some, None, Result, Ok, Err}
+use Rattle.std.specs.Prelude.{ℕ, ◌+◌, ◌==◌, Bool, true, false, if◌then◌else◌, List, map, Option, Some, None, Result, Ok, Err}
 use Rattle.std.specs.Option.{ok_or}
 use Rattle.octets.specs.declared.refusal.Refusal.{Refusal}
 use Rattle.octets.specs.declared.refusal.Refusal.TheVariants.{Usage}
@@ -7,10 +7,13 @@ use Rattle.octets.specs.Outcomes.{◌>>=◌}
 use Rattle.octets.specs.Plan.{OutputTexts, plan_from, planned}
 use Rattle.prf.specs.declared.digests.HashAlg.{HashAlg}
 use Rattle.prf.specs.declared.digests.HashAlg.TheVariants.{S224, S256, S384, S512}
+use Rattle.keys.specs.Keys.{OctetKey}
 use Rattle.keys.specs.Limits.{limits}
+use Rattle.keys.specs.SetMembers.{key_members}
 use Rattle.keys.specs.Thumbprints.{thp_answer}
 use Rattle.tokens.specs.Jws.{sig_answer}
 use Rattle.tokens.specs.Jwe.{enc_answer}
+use Rattle.tokens.specs.Judging.{KeyUses, uses_of}
 
 -- ---- arguments (docs/SPECIFICATION.md "Calls for C" 1)
 
@@ -44,3 +47,24 @@ sign_answer compact detach keys template payload = do
 abbrev pub encrypt_answer : Bool → Bool → List ℕ → List ℕ → List ℕ → List ℕ → Result OutputTexts Refusal
 encrypt_answer compact detach keys template random plaintext =
     planned (plan_from (enc_answer limits compact detach keys template) random) plaintext
+
+-- ---- keys that are judged (docs/SPECIFICATION.md "Calls for C" 8)
+
+abbrev pub if_so : Bool → ℕ → ℕ
+if_so true n = n
+if_so false n = 0
+
+-- 16 for a good key, and 1, 2, 4 and 8 if it may sign, verify, encrypt and decrypt
+abbrev pub good_number : KeyUses → ℕ
+good_number uses = 16 + if_so uses.sign 1 + if_so uses.verify 2 + if_so uses.encrypt 4 + if_so uses.decrypt 8
+
+-- the number of a member of a set, which is 0 if it is bad
+abbrev pub member_number : Option OctetKey → ℕ
+member_number None = 0
+member_number (Some key) = good_number (uses_of key)
+
+-- the numbers of the members of a text, in order
+unfoldable pub judged_keys : List ℕ → Result (List ℕ) Refusal
+judged_keys keys = do
+  members ← key_members limits keys
+  Ok (map member_number members)

@@ -5,13 +5,19 @@ use Rattle.octets.specs.Outcomes.{◌>>=◌}
 use Rattle.octets.specs.Plan.{OutputTexts}
 use Rattle.keys.specs.Keys.{OctetKey}
 use Rattle.keys.specs.Limits.{Limits}
+use Rattle.objects.specs.Code.Views.{jws_view}
 use Rattle.objects.specs.Jws.{jws_of}
+use Rattle.objects.specs.declared.jws.Jws as jws
 use Rattle.tokens.specs.Verifying.{verifying_by}
 use Rattle.lakhdzeva.specs.declared.answers.Both.{Both}
 
 -- the text and the content
 abbrev pub both : Both → OutputTexts
 both made = record { text = made.text.items; content = made.content.items }
+
+-- the payload of the object
+abbrev pub payload_of_object : jws.Jws → List ℕ
+payload_of_object object = (jws_view object).payload
 
 -- what `ver_answer` and `ver_all_answer` give once the keys are read
 abbrev pub verified_by : Limits → Bool → Bool → List OctetKey → Option (List ℕ) → List ℕ → Result (List ℕ) Refusal

@@ -1,22 +1,24 @@
 //! The answers of the calls. Each has the octets that the definitions give, or their refusal, unless memory or a device fails. The inputs
 //! never fail, and the outputs fail only if memory is refused.
-ghost use Rattle.std.specs.Prelude.{◌≡◌, true, false, [], None, Some, option_map, IfOk, IfErr};
+ghost use Rattle.std.specs.Prelude.{◌≡◌, true, false, [], None, Some, map, option_map, IfOk, IfErr};
 ghost use Rattle.octets.specs.Outcomes.{GivesUnlessExternal};
 ghost use Rattle.octets.specs.declared.refusal.Refusal.{Refusal};
+ghost use Rattle.keys.specs.Code.Views.{key_view};
 ghost use Rattle.keys.specs.Limits.{limits};
 ghost use Rattle.keys.specs.Generating.{gen_answer};
 ghost use Rattle.tokens.specs.Jws.{ver_answer, ver_all_answer, jws_fmt_answer};
 ghost use Rattle.tokens.specs.Jwe.{dec_answer_within, jwe_fmt_answer};
-ghost use Rattle.lakhdzeva.specs.Answers.{if_given, hash_of_bits, thumbprints_answer, sign_answer, encrypt_answer};
-ghost use Rattle.lakhdzeva.specs.Code.{both, verified_by};
+ghost use Rattle.tokens.specs.Code.Uses.{uses_view};
+ghost use Rattle.lakhdzeva.specs.Answers.{if_given, hash_of_bits, thumbprints_answer, sign_answer, encrypt_answer, judged_keys, member_number, good_number};
+ghost use Rattle.lakhdzeva.specs.Code.{both, payload_of_object, verified_by};
 
 use crate::growing::GrowingOutput;
-use keys::{KeySet, generate, text_thumbprints};
+use keys::{Key, KeySet, generate, read_members, text_thumbprints};
 use objects::{Jwe, Jws};
 use octets::{MemoryInput, Refusal};
 use prf::HashAlg;
 use std::alloc::Global;
-use tokens::{jwe_decrypt_within, jwe_encrypt, jws_sign, jws_verify, needs_signers};
+use tokens::{KeyUses, jwe_encrypt, jwe_plaintext, jws_sign, jws_verify, key_uses, needs_signers};
 
 /// The text of an object, and a content beside it.
 #[derive(Drop)]
@@ -56,6 +58,57 @@ pub(crate) fn key_text(alloc: Global, template: &[u8], random: &[u8]) -> Result<
 {
     let mut random = MemoryInput::new(random, usize::MAX);
     Ok(generate(alloc, template, &mut random)?.into_bytes())
+}
+
+/// What each member of a text of keys may do, one octet for each.
+#[tactic(auto, unfolding(crate::specs::Answers::judged_keys))]
+pub(crate) fn judged_members(alloc: Global, keys: &[u8]) -> Result<Vec<u8>, Refusal>
+    ensures { GivesUnlessExternal (λ numbers. numbers.items) result (judged_keys keys.now) }
+{
+    let members = read_members(alloc, keys)?;
+    member_numbers(alloc, &members)
+}
+
+/// The number of each member.
+fn member_numbers(alloc: Global, members: &[Option<Key>]) -> Result<Vec<u8>, Refusal>
+    ensures numbers { IfOk result (λ numbers. numbers.items ≡ map member_number (map (option_map key_view) members.now)) }
+    ensures memory { IfErr result (λ e. e ≡ Refusal.Memory) }
+{
+    let mut numbers = Vec::new(alloc);
+    for member in members {
+        numbers.push(member_number(member))?;
+    }
+    Ok(numbers)
+}
+
+/// The number of a member, which is 0 if it is bad.
+fn member_number(member: &Option<Key>) -> u8
+    ensures { result ≡ member_number (option_map key_view member.now) }
+{
+    match member {
+        None => 0,
+        Some(key) => good_number(key_uses(key)),
+    }
+}
+
+/// 16 for a good key, and 1, 2, 4 and 8 for what it may do.
+fn good_number(uses: KeyUses) -> u8
+    ensures { result ≡ good_number (uses_view uses) }
+{
+    let mut number = 16;
+    if uses.sign {
+        number += 1;
+    }
+    if uses.verify {
+        number += 2;
+    }
+    if uses.encrypt {
+        number += 4;
+    }
+    if uses.decrypt {
+        number += 8;
+    }
+    number
 }
 
 pub(crate) fn thumbprint_lines(alloc: Global, keys: &[u8], bits: u32) -> Result<Vec<u8>, Refusal>
@@ -110,17 +163,23 @@ pub(crate) fn signed_text(
     Ok(text.into_octets())
 }
 
-/// The payload of an object that some key of the set signed, or with `all` each key.
-fn payload_by(alloc: Global, set: &KeySet, object: &[u8], all: bool) -> Result<Vec<u8>, Refusal>
-    ensures { GivesUnlessExternal (λ payload. payload.items) result (verified_by limits all true set.now None object.now) }
+/// The object of a text, if some key of the set signed it, or with `all` each key.
+#[tactic(auto, unfolding(tokens::specs::Verifying::verifying_by, tokens::specs::Verifying::verified_payload))]
+fn object_by<'t>(
+    alloc: Global,
+    set: &KeySet,
+    object: &'t [u8],
+    all: bool,
+) -> Result<Jws<'t>, Refusal>
+    ensures { GivesUnlessExternal payload_of_object result (verified_by limits all true set.now None object.now) }
 {
     let jws = Jws::read(alloc, object, None)?;
-    let mut payload = GrowingOutput::new(alloc);
-    jws_verify(set, &jws, all, Some(&mut payload))?;
-    Ok(payload.into_octets())
+    jws_verify::<GrowingOutput>(set, &jws, all, Option::default())?;
+    Ok(jws)
 }
 
-/// Verifies an object whose payload is handed in apart from it.
+/// Verifies an object whose payload is handed in apart from it. The payload is copied: `jws_verify_detached` holds none, but an HMAC for each
+/// key and each header of the object, which a stranger may have made.
 fn verify_payload_by(
     alloc: Global,
     set: &KeySet,
@@ -134,16 +193,17 @@ fn verify_payload_by(
     jws_verify::<GrowingOutput>(set, &jws, all, Option::default())
 }
 
-pub(crate) fn payload_of(
+/// The object, if some of the keys signed it, or with `all` each of them. Its payload is the answer.
+pub(crate) fn verified_object<'t>(
     alloc: Global,
     keys: &[u8],
-    object: &[u8],
+    object: &'t [u8],
     all: bool,
-) -> Result<Vec<u8>, Refusal>
-    ensures { GivesUnlessExternal (λ payload. payload.items) result (ver_answer limits all true keys.now None object.now) }
+) -> Result<Jws<'t>, Refusal>
+    ensures { GivesUnlessExternal payload_of_object result (ver_answer limits all true keys.now None object.now) }
 {
     let set = KeySet::read(alloc, keys, false)?;
-    payload_by(alloc, &set, object, all)
+    object_by(alloc, &set, object, all)
 }
 
 pub(crate) fn verify_with_payload(
@@ -159,18 +219,18 @@ pub(crate) fn verify_with_payload(
     verify_payload_by(alloc, &set, object, payload, all)
 }
 
-/// The payload of an object that each of so many signers signed.
-pub(crate) fn payload_of_all(
+/// The object, if each of so many signers signed it. Its payload is the answer.
+pub(crate) fn object_of_signers<'t>(
     alloc: Global,
     keys: &[u8],
     signers: usize,
-    object: &[u8],
-) -> Result<Vec<u8>, Refusal>
-    ensures { GivesUnlessExternal (λ payload. payload.items) result (ver_all_answer limits signers true keys.now None object.now) }
+    object: &'t [u8],
+) -> Result<Jws<'t>, Refusal>
+    ensures { GivesUnlessExternal payload_of_object result (ver_all_answer limits signers true keys.now None object.now) }
 {
     let set = KeySet::read(alloc, keys, true)?;
     needs_signers(alloc, &set, signers)?;
-    payload_by(alloc, &set, object, true)
+    object_by(alloc, &set, object, true)
 }
 
 /// Verifies by each of so many signers.
@@ -269,9 +329,7 @@ pub(crate) fn plaintext_of(
     let set = KeySet::read(alloc, keys, false)?;
     let ciphertext = given_content(alloc, given, ciphertext)?;
     let jwe = Jwe::read(alloc, object, ciphertext)?;
-    let mut plaintext = GrowingOutput::new(alloc);
-    jwe_decrypt_within(alloc, &set, jwe, most_iterations, &mut plaintext).1?;
-    Ok(plaintext.into_octets())
+    jwe_plaintext(alloc, &set, jwe, most_iterations).1
 }
 
 #[tactic(auto, unfolding(tokens::specs::Jwe::jwe_fmt_answer))]

@@ -11,7 +11,7 @@ ghost use Rattle.keys.specs.Limits.{limits};
 ghost use Rattle.keys.specs.Generating.{gen_answer};
 ghost use Rattle.tokens.specs.Jws.{ver_answer, ver_all_answer, jws_fmt_answer};
 ghost use Rattle.tokens.specs.Jwe.{dec_answer_within, jwe_fmt_answer};
-ghost use Rattle.lakhdzeva.specs.Answers.{if_given, thumbprints_answer, sign_answer, encrypt_answer};
+ghost use Rattle.lakhdzeva.specs.Answers.{if_given, thumbprints_answer, sign_answer, encrypt_answer, judged_keys};
 ghost use Rattle.lakhdzeva.specs.Calls.{Tells, Delivers, DeliversBoth};
 
 mod answers;
@@ -19,10 +19,11 @@ mod growing;
 mod places;
 
 use crate::answers::{
-    Form, encrypted_form, encrypted_texts, key_text, payload_of, payload_of_all, plaintext_of,
-    signed_form, signed_text, thumbprint_lines, verify_all_with_payload, verify_with_payload,
+    Form, encrypted_form, encrypted_texts, judged_members, key_text, object_of_signers,
+    plaintext_of, signed_form, signed_text, thumbprint_lines, verified_object,
+    verify_all_with_payload, verify_with_payload,
 };
-use crate::places::{deliver, deliver_both, told};
+use crate::places::{deliver, deliver_both, deliver_payload, told};
 use std::alloc::Global;
 
 /// Makes a key as the template asks, from octets at the front of `random`, which are all new. Most templates need at most 64 of them, and
@@ -52,6 +53,20 @@ pub extern "C" fn lakhdzeva_core_thumbprints(
     ensures { Delivers (thumbprints_answer keys.now bits) (record { old = lines.old; new = lines.new; count = count.new }) result }
 {
     deliver(thumbprint_lines(alloc, keys, bits), lines, count)
+}
+
+/// Says of each member of a text of keys, in order, what it may do: one octet for each, and one for a key that is alone. It is 0 for a bad
+/// key. For a good one it is 16, and 1 more if it may sign by some algorithm, 2 to verify, 4 to encrypt and 8 to decrypt.
+#[unsafe(no_mangle)]
+pub extern "C" fn lakhdzeva_core_judge_keys(
+    alloc: Global,
+    keys: &[u8],
+    uses: &mut [u8],
+    count: &mut usize,
+) -> u32
+    ensures { Delivers (judged_keys keys.now) (record { old = uses.old; new = uses.new; count = count.new }) result }
+{
+    deliver(judged_members(alloc, keys), uses, count)
 }
 
 /// Signs the payload with each of the keys, as the template asks (RFC 7515). A payload that is detached is not in the object.
@@ -88,7 +103,7 @@ pub extern "C" fn lakhdzeva_core_verify(
 ) -> u32
     ensures { Delivers (ver_answer limits all true keys.now None object.now) (record { old = payload.old; new = payload.new; count = count.new }) result }
 {
-    deliver(payload_of(alloc, keys, object, all), payload, count)
+    deliver_payload(verified_object(alloc, keys, object, all), payload, count)
 }
 
 /// Verifies the object with one of the keys, or with all of them, and with the payload that is handed in (RFC 7515 appendix F).
@@ -119,7 +134,11 @@ pub extern "C" fn lakhdzeva_core_verify_all(
     ensures { Delivers (ver_all_answer limits signers true keys.now None object.now)
         (record { old = payload.old; new = payload.new; count = count.new }) result }
 {
-    deliver(payload_of_all(alloc, keys, signers, object), payload, count)
+    deliver_payload(
+        object_of_signers(alloc, keys, signers, object),
+        payload,
+        count,
+    )
 }
 
 /// The same with the payload that is handed in (RFC 7515 appendix F).

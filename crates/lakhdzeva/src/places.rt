@@ -4,9 +4,10 @@ ghost use Rattle.octets.specs.Outcomes.{GivesUnlessExternal, is_external};
 ghost use Rattle.octets.specs.Plan.{OutputTexts};
 ghost use Rattle.octets.specs.declared.refusal.Refusal.{Refusal};
 ghost use Rattle.lakhdzeva.specs.Calls.{number_of, Tells, Delivers, DeliversBoth};
-ghost use Rattle.lakhdzeva.specs.Code.{both};
+ghost use Rattle.lakhdzeva.specs.Code.{both, payload_of_object};
 
 use crate::answers::Both;
+use objects::Jws;
 use octets::Refusal;
 
 /// The status of a call without a place.
@@ -31,6 +32,32 @@ pub(crate) fn deliver(made: Result<Vec<u8>, Refusal>, place: &mut [u8], count: &
                 return number(Refusal::Write);
             }
             put(&octets, place);
+            0
+        }
+        Err(refusal) => {
+            *count = 0;
+            number(in_memory(refusal))
+        }
+    }
+}
+
+/// Writes the payload of the object to the front of the place, if there is room.
+pub(crate) fn deliver_payload(
+    made: Result<Jws<'_>, Refusal>,
+    place: &mut [u8],
+    count: &mut usize,
+) -> u32
+    ensures { (answer : Result (List ℕ) Refusal) → GivesUnlessExternal payload_of_object made.entry answer
+        → Delivers answer (record { old = place.old; new = place.new; count = count.new }) result }
+{
+    match made {
+        Ok(object) => {
+            let payload = object.held_payload();
+            *count = payload.len();
+            if payload.len() > place.len() {
+                return number(Refusal::Write);
+            }
+            payload.copy_onto(place);
             0
         }
         Err(refusal) => {

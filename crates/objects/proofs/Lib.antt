@@ -30,6 +30,7 @@ pub mod JwsFrames
 pub mod MadeJwe
 pub mod MadeJws
 pub mod BuiltJws
+pub mod BuiltJwe
 pub mod BuildingJwe
 pub mod Building
 pub mod BuildingJws

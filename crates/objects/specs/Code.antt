@@ -13,7 +13,9 @@ pub mod Writing
 pub mod JwsWriting
 -- the texts of an encrypted object
 pub mod JweWriting
--- objects that are made without reading them again
+-- signed objects that are made without reading them again
 pub mod Making
+-- encrypted objects that are made without reading them again
+pub mod JweMaking
 -- the texts around a content, and what fills them
 pub mod Frames

@@ -32,7 +32,7 @@ pub use header::Header;
 pub use header::parts::{copy_header, header_at, read_protected};
 pub use json_members::text_at;
 pub use jwe::Jwe;
-pub use jwe::parts::{JweParts, RecipientParts};
+pub use jwe::parts::{JweParts, MadeEncryptedObject, MadeRecipient, RecipientParts};
 pub use jwe::recipient::Recipient;
 pub use jws::Jws;
 pub use jws::parts::{JwsParts, MadeSignature, SignatureParts};

@@ -43,7 +43,7 @@ IsOctets-back xs ys h = subst IsOctets (drop-append_seam xs ys) (IsOctets-drop (
 
 -- ---- a text decodes to octets
 
-both_none : (x y : Option DecodeError) → or_else x y ≡ None → (x ≡ None) × (y ≡ None)
+pub both_none : (x y : Option DecodeError) → or_else x y ≡ None → (x ≡ None) × (y ≡ None)
 both_none None y h = (refl, h)
 both_none (Some e) y h = cc h
 
@@ -98,7 +98,7 @@ zeros_below (suc (suc (suc (suc k)))) = omega arith
 leftover_octets : (st : _) (i : ℕ) → IsLeftover st i → IsOctets (leftover_bytes st)
 leftover_octets st i held = IsOctets-take _ _ (group_octets _ _ _ _ (held.3 0) (held.3 1) (held.3 2) (held.3 3))
 
-outcome_ok : (x : Option DecodeError) (d b : List ℕ) → or_base64 (decode_outcome x d) ≡ Ok b → (x ≡ None) × (d ≡ b)
+pub outcome_ok : (x : Option DecodeError) (d b : List ℕ) → or_base64 (decode_outcome x d) ≡ Ok b → (x ≡ None) × (d ≡ b)
 outcome_ok None d b h = (refl, cc h)
 outcome_ok (Some e) d b h = cc h
 

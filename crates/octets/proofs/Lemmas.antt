@@ -2,7 +2,7 @@
 pub use Rattle.octets.proofs.Meanings.{text_of_meaning, meaning_of_text, decodes_exactly}
 pub use Rattle.octets.proofs.Spared.{not_told, stands_first}
 pub use Rattle.octets.proofs.Unread.{encoding_fixes_nothing, decoding_fixes_nothing, unread_untouched}
-pub use Rattle.octets.proofs.Groups.{base64url_whole-append, base64url_whole_part, base64url-nil}
+pub use Rattle.octets.proofs.Groups.{base64url_whole-append, base64url_whole_part, length-base64url, base64url-nil}
 pub use Rattle.octets.proofs.Characters.{has_url_characters, spells_six_bits}
 pub use Rattle.octets.proofs.Decoded.{IsOctets-nil, first_or, IsOctets-append, IsOctets-take, IsOctets-drop, IsOctets-front, IsOctets-back, octets_of_meaning, decoded-nil}
 pub use Rattle.octets.proofs.Growing.{encoding_grows, as_it_is_grows, kept_up_by_none}

@@ -6,6 +6,7 @@ pub mod Unread
 pub mod Groups
 pub mod Characters
 pub mod Decoded
+pub mod DecodedOnto
 pub mod Settling
 pub mod Growing
 pub mod Prefixes

@@ -1,10 +1,12 @@
 //! Base64url without padding (RFC 4648 section 5).
-ghost use Rattle.std.specs.Prelude.{◌≡◌, ◌≢◌, ◌++◌, List, ℕ, IfOk, IfErr, OnOk, OnErr, IsErrOf, string_bytes};
+ghost use Rattle.std.specs.Prelude.{◌≡◌, ◌≢◌, ◌≤◌, [], ◌++◌, List, ℕ, length, drop, IsOk, IfOk, IfErr, OnOk, OnErr, IsErrOf, string_bytes};
+ghost use Rattle.std.specs.Result.{result_unwrap_or};
 ghost use Rattle.octets.specs.Base64url.{base64url, decoded};
 ghost use Rattle.octets.specs.Octets.{IsOctets};
 ghost use Rattle.octets.specs.Code.Results.{AgreesUnlessMemory};
 
 use crate::Refusal;
+use crate::laws::are_octets;
 use base64::DecodeAllocError;
 use base64::engine::general_purpose::URL_SAFE_NO_PAD as BASE64URL;
 use std::alloc::Global;
@@ -44,4 +46,17 @@ pub fn b64_decode(alloc: Global, text: &[u8]) -> Result<Vec<u8>, Refusal>
         Err(DecodeAllocError::OutOfMemory) => Err(Refusal::Memory),
         Err(DecodeAllocError::DecodeError(_)) => Err(Refusal::Base64),
     }
+}
+
+/// Writes the octets of a base64url text to the front of `out`, without memory. The text must be one, and `out` must have room for its
+/// octets.
+pub fn b64_decode_onto(text: &[u8], out: &mut [u8])
+    requires text { IsOk (decoded text.now) }
+    requires room { length (result_unwrap_or (decoded text.now) []) ≤ length out.old }
+    ensures { let octets = result_unwrap_or (decoded text.now) [] in out.new ≡ octets ++ drop (length octets) out.old }
+{
+    are_octets(text);
+    let Ok(_) = BASE64URL.decode_slice(text, out) else {
+        unreachable!()
+    };
 }

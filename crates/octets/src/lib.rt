@@ -31,7 +31,7 @@ mod transform;
 mod whole;
 mod writer;
 
-pub use base64url::{b64_append, b64_decode, b64_encode};
+pub use base64url::{b64_append, b64_decode, b64_decode_onto, b64_encode};
 pub use devices::{Input, Output};
 pub use failing::{Failing, FailingInput, FailingOutput};
 pub use lanes::{same_octets, xor_into};

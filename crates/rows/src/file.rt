@@ -13,6 +13,24 @@ pub(crate) struct Tally {
     pub(crate) failures: usize,
 }
 
+impl Tally {
+    /// Counts a row that was tried.
+    fn count(&mut self, is_right: bool) {
+        self.rows = self.rows.saturating_add(1);
+        if !is_right {
+            self.failures = self.failures.saturating_add(1);
+        }
+    }
+}
+
+/// What a block was: values, the fields of a group, or a row that was tried.
+#[derive(Drop)]
+enum Block {
+    Values,
+    Group(Fields),
+    Row { is_right: bool },
+}
+
 /// Tries the rows of a file, and prints how many there are. The values of the file are known in the files after it.
 pub(crate) fn try_file(
     rt: &HostRuntime,
@@ -28,9 +46,10 @@ pub(crate) fn try_file(
     for (number, line) in text.as_str().split('\n').enumerate() {
         if line.is_empty() {
             if !block.is_empty() {
-                match end_block(rt, name, at, block.as_slice(), &group, values, tally) {
-                    Ok(Some(fields)) => group = fields,
-                    Ok(None) => {}
+                match end_block(rt, name, at, block.as_slice(), &group, values) {
+                    Ok(Block::Values) => {}
+                    Ok(Block::Group(fields)) => group = fields,
+                    Ok(Block::Row { is_right }) => tally.count(is_right),
                     Err(bad) => return Err(bad.at(at)),
                 }
                 block.clear();
@@ -49,7 +68,7 @@ pub(crate) fn try_file(
     Ok(())
 }
 
-/// Does what a block says: names its values, returns the fields of a new group, or tries a row.
+/// Does what a block says: names its values, reads the fields of a new group, or tries a row.
 fn end_block<'x>(
     rt: &HostRuntime,
     file: &'x str,
@@ -57,8 +76,7 @@ fn end_block<'x>(
     block: &[&str],
     group: &'x Fields,
     values: &mut Values,
-    tally: &mut Tally,
-) -> Result<Option<Fields>, Bad> {
+) -> Result<Block, Bad> {
     let own = Fields::new(rt.alloc());
     let is_of_values = block.iter().any(|line| line.starts_with("value "));
     if is_of_values {
@@ -66,14 +84,14 @@ fn end_block<'x>(
         for line in block {
             values.add(line, &row)?;
         }
-        return Ok(None);
+        return Ok(Block::Values);
     }
     let own = read_fields(rt.alloc(), block, group, values)?;
     if own.has(Name::Test) {
-        return Ok(Some(own));
+        return Ok(Block::Group(own));
     }
     if own.is_only(Name::Source) {
-        return Ok(Some(Fields::new(rt.alloc())));
+        return Ok(Block::Group(Fields::new(rt.alloc())));
     }
     let mut trial = Trial {
         file,
@@ -82,11 +100,9 @@ fn end_block<'x>(
         is_right: true,
     };
     trial.all(rt)?;
-    tally.rows = tally.rows.saturating_add(1);
-    if !trial.is_right {
-        tally.failures = tally.failures.saturating_add(1);
-    }
-    Ok(None)
+    Ok(Block::Row {
+        is_right: trial.is_right,
+    })
 }
 
 /// The fields of a block. Those before a line, and those of the group, may be named by its expression.

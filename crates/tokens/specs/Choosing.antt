@@ -9,13 +9,12 @@ use Rattle.octets.specs.declared.refusal.Refusal.TheVariants.{Header, NoAlgorith
 use Rattle.octets.specs.Outcomes.{◌>>=◌, needs}
 use Rattle.keys.specs.declared.algorithm.Algorithm.TheVariants.{Encryption as EncryptionWith}
 use Rattle.ciphers.specs.declared.content_alg.ContentAlg.{ContentAlg}
-use Rattle.ciphers.specs.declared.content_alg.ContentAlg.TheVariants.{A128CbcHs256, A192CbcHs384, A256CbcHs512}
 use Rattle.ciphers.specs.declared.key_alg.KeyAlg.{KeyAlg}
 use Rattle.ciphers.specs.declared.key_alg.KeyAlg.TheVariants.{Dir, A128Kw, A192Kw, A256Kw}
 use Rattle.ciphers.specs.declared.key_alg.KeyManagementMode.{KeyManagementMode}
 use Rattle.ciphers.specs.declared.key_alg.KeyManagementMode.TheVariants as mode
 use Rattle.ciphers.specs.Algorithms.{encryption_name, management_alg_of, encryption_alg_of, mode_of, kek_len, is_password_based}
-use Rattle.ciphers.specs.Sealing.{cek_len}
+use Rattle.ciphers.specs.Sealing.{cbc_alg_with}
 use Rattle.keys.specs.Algorithms.{management_operations}
 use Rattle.keys.specs.Json.{json_value}
 use Rattle.keys.specs.Keys.{OctetKey, allows, fits}
@@ -43,21 +42,13 @@ abbrev pub chosen_management : Option KeyAlg → OctetKey → Result KeyAlg Refu
 chosen_management (Some alg) key = Ok alg
 chosen_management None key = management_of_key key.alg (length key.octets)
 
--- AES in CBC mode with HMAC, by the length of the key
-abbrev pub cbc_algs : List ContentAlg
-cbc_algs = A128CbcHs256 ∷ A192CbcHs384 ∷ A256CbcHs512 ∷ []
-
--- the one whose key has n octets, where the key is used directly
-abbrev pub encryption_by_length : ℕ → Option ContentAlg
-encryption_by_length n = find (λ enc. n == cek_len enc) cbc_algs
-
--- the one whose AES key, half of the content encryption key, is as long as the key of the wrap, of n octets
+-- the one in CBC mode whose AES key, half of the content encryption key, is as long as the key of the wrap, of n octets
 abbrev pub encryption_by_wrap : ℕ → Option ContentAlg
-encryption_by_wrap n = find (λ enc. 2 * n == cek_len enc) cbc_algs
+encryption_by_wrap n = cbc_alg_with (2 * n)
 
 -- the one that goes with key management
 abbrev pub encryption_in : KeyManagementMode → ℕ → OctetKey → Option ContentAlg
-encryption_in mode.Direct n key = option_or (option_and_then encryption_alg_of key.alg) (encryption_by_length (length key.octets))
+encryption_in mode.Direct n key = option_or (option_and_then encryption_alg_of key.alg) (cbc_alg_with (length key.octets))
 encryption_in mode.KeyWrap n key = encryption_by_wrap n
 encryption_in mode.Password n key = encryption_by_wrap n
 encryption_in mode.GcmKeyWrap n key = encryption_by_wrap n

@@ -13,5 +13,7 @@ pub mod Framing
 pub mod SealedTexts
 -- the work of decrypting
 pub mod Work
+-- what a key may do
+pub mod Uses
 -- pairs that are tried, and what is known of earlier ones
 pub mod Trying

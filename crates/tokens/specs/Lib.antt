@@ -21,6 +21,8 @@ pub mod Delivering
 pub mod Encrypting
 -- decrypting
 pub mod Decrypting
+-- what a key may do by some algorithm
+pub mod Judging
 -- the answers about signed objects
 pub mod Jws
 -- the answers about encrypted objects

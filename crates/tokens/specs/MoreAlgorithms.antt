@@ -1,9 +1,8 @@
 -- What stays as it is if more algorithms of key management are known: every object whose recipients name none of the further ones, or name
 -- algorithms that are known without them.
-use Rattle.std.specs.Prelude.{◌≡◌, ◌↔◌, ◌||◌, ℕ, not, is_some, true, false, Bool, List, [], ◌∷◌, ◌++◌, Option, Ok}
+use Rattle.std.specs.Prelude.{◌≡◌, ◌↔◌, ◌||◌, ℕ, not, is_some, true, false, Bool, List, ◌++◌, take, Option, Ok}
 use Rattle.std.specs.List.{filter, list_all}
 use Rattle.ciphers.specs.declared.key_alg.KeyAlg.{KeyAlg}
-use Rattle.ciphers.specs.declared.key_alg.KeyAlg.TheVariants.{Dir, A128Kw, A192Kw, A256Kw, Pbes2Hs256A128Kw, Pbes2Hs384A192Kw, Pbes2Hs512A256Kw}
 use Rattle.ciphers.specs.declared.key_alg.KeyManagementMode.{KeyManagementMode}
 use Rattle.ciphers.specs.declared.key_alg.KeyManagementMode.TheVariants.{GcmKeyWrap}
 use Rattle.ciphers.specs.Algorithms.{management_algs, management_alg_among, mode_of}
@@ -30,9 +29,9 @@ earlier_limits = record {
   management = management_algs;
 }
 
--- the algorithms
+-- the algorithms: direct use, AES key wrap and PBES2 (RFC 7518 sections 4.4, 4.5 and 4.8)
 abbrev pub earlier_management_algs : List KeyAlg
-earlier_management_algs = Dir ∷ A128Kw ∷ A192Kw ∷ A256Kw ∷ Pbes2Hs256A128Kw ∷ Pbes2Hs384A192Kw ∷ Pbes2Hs512A256Kw ∷ []
+earlier_management_algs = take 7 management_algs
 
 -- those that came with 2.0.0: key wrap by AES in GCM (RFC 7518 section 4.7)
 abbrev pub is_gcm_key_wrap : KeyManagementMode → Bool

@@ -1,6 +1,6 @@
 -- Signing with each key of a set (RFC 7515 section 5.1), in compact form (section 7.1) or in JSON form (section 7.2).
-use Rattle.std.specs.Prelude.{◌≡◌, ℕ, ◌&&◌, Bool, true, false, List, [], ◌∷◌, ◌++◌, length, map, nat_le, if◌then◌else◌, Option, Some, None, Result, Ok}
-use Rattle.std.specs.List.{find, list_all}
+use Rattle.std.specs.Prelude.{◌≡◌, ℕ, ◌&&◌, Bool, true, false, List, [], ◌++◌, length, map, nat_le, if◌then◌else◌, Option, Some, None, Result, Ok}
+use Rattle.std.specs.List.{list_all}
 use Rattle.std.specs.Option.{ok_or}
 use Rattle.serde_json.specs.Data.{Members}
 use Rattle.octets.specs.declared.refusal.Refusal.{Refusal}
@@ -10,9 +10,8 @@ use Rattle.octets.specs.Base64url.{base64url, whole_groups}
 use Rattle.octets.specs.Plan.{OutputTexts, Plan, BothGrow}
 use Rattle.keys.specs.declared.algorithm.Algorithm.TheVariants.{Signature}
 use Rattle.keys.specs.declared.algorithm.SignatureAlg.{SignatureAlg}
-use Rattle.keys.specs.declared.algorithm.SignatureAlg.TheVariants.{Hs256, Hs384, Hs512}
 use Rattle.keys.specs.declared.operation.Operation.TheVariants.{Sign}
-use Rattle.keys.specs.Algorithms.{hash_len, signature_alg_of}
+use Rattle.keys.specs.Algorithms.{longest_alg_for, signature_alg_of}
 use Rattle.keys.specs.Json.{json_value}
 use Rattle.keys.specs.Limits.{Limits, limits, are_few}
 use Rattle.keys.specs.Keys.{OctetKey, allows, fits}
@@ -23,13 +22,9 @@ use Rattle.tokens.specs.Signatures.{signature_of}
 
 -- ---- the algorithm of a key (docs/SPECIFICATION.md "Signing" 2)
 
--- the one with the longest hash that a key of n octets is long enough for
-abbrev pub alg_by_length : ℕ → Option SignatureAlg
-alg_by_length n = find (λ alg. nat_le (hash_len alg) n) (Hs512 ∷ Hs384 ∷ Hs256 ∷ [])
-
--- the one that its `alg` names, or the one that its length implies
+-- the one that its `alg` names, or the one with the longest hash that a key of n octets is long enough for
 abbrev pub alg_of_key : Option (List ℕ) → ℕ → Result SignatureAlg Refusal
-alg_of_key None n = ok_or (alg_by_length n) NoAlgorithm
+alg_of_key None n = ok_or (longest_alg_for n) NoAlgorithm
 alg_of_key (Some name) n = ok_or (signature_alg_of name) KeyDoesNotFit
 
 -- that of the template, or that of the key

@@ -1,6 +1,7 @@
 -- Verifying with the keys of a set (RFC 7515 section 5.2).
-use Rattle.std.specs.Prelude.{◌≡◌, ℕ, ◌&&◌, Bool, true, false, List, [], ◌∷◌, ◌++◌, is_some, if◌then◌else◌, Option, Some, None, Result, Ok}
+use Rattle.std.specs.Prelude.{◌≡◌, ℕ, ◌&&◌, Bool, true, false, List, [], ◌∷◌, ◌++◌, is_some, position, if◌then◌else◌, Option, Some, None, Result, Ok}
 use Rattle.std.specs.List.{list_any, list_all}
+use Rattle.std.specs.Option.{ok_or}
 use Rattle.std.specs.Str.{bytes_eq}
 use Rattle.octets.specs.declared.refusal.Refusal.{Refusal}
 use Rattle.octets.specs.declared.refusal.Refusal.TheVariants.{Unsupported, KeyDoesNotFit, NotOpened}
@@ -62,6 +63,21 @@ verified_payload all keys o = do
   candidates ← needs (list_any (λ s. list_any (may_verify s) keys) o.signatures) KeyDoesNotFit
   verified ← needs (are_verified all keys o) NotOpened
   Ok o.payload
+
+-- the place, from 0, of the first key that made a signature
+abbrev pub first_signer : List OctetKey → SignedObject → Option ℕ
+first_signer keys o = position (λ key. list_any (λ s. verifies o.payload s key) o.signatures) keys
+
+-- the place of the first key that verifies the object, or the first refusal
+unfoldable pub verified_by : List OctetKey → SignedObject → Result ℕ Refusal
+verified_by keys o = do
+  supported ← needs (list_any (λ s. is_some (signature_alg_of s.alg)) o.signatures) Unsupported
+  candidates ← needs (list_any (λ s. list_any (may_verify s) keys) o.signatures) KeyDoesNotFit
+  ok_or (first_signer keys o) NotOpened
+
+-- Some key verifies the object exactly if there is a first one, and the refusals are the same.
+abbrev pub FirstVerifies : Type 0
+FirstVerifies = (keys : List OctetKey) (o : SignedObject) → verified_payload false keys o ≡ (verified_by keys o >>= λ place. Ok o.payload)
 
 -- what is written: the payload, if it is asked for
 unfoldable pub verifying_by : Bool → Bool → List OctetKey → SignedObject → Result (List ℕ) Refusal

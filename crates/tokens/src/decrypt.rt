@@ -128,34 +128,47 @@ pub fn jwe_decrypt_within<O: Output>(
         ≡ work_told (jwe_view jwe) (pairs_to_try (with_iterations most_iterations limits) keys.now (jwe_view jwe).recipients) result.1 }
     ensures bound { IsBounded (work_view result.0) }
 {
-    let mut work = NO_WORK;
-    let result = match open_first(alloc, keys, jwe, most_iterations, &mut work) {
+    let (work, plaintext) = jwe_plaintext(alloc, keys, jwe, most_iterations);
+    let result = match plaintext {
         Err(refusal) => Err(refusal),
         Ok(plaintext) => emit(out, &plaintext),
     };
     (work, result)
 }
 
-/// The plaintext of the first pair that opens.
+/// `jwe_decrypt_within` for a caller who wants the plaintext in memory: it is decrypted where the ciphertext of the object stood, and is not
+/// copied.
 #[tactic(auto, unfolding(crate::specs::Decrypting::decrypted))]
-fn open_first(
+pub fn jwe_plaintext(
     alloc: Global,
     keys: &KeySet,
     jwe: Jwe,
     most_iterations: u64,
-    work: &mut Work,
-) -> Result<Vec<u8>, Refusal>
-    requires { work_view work.old ≡ no_work }
-    ensures answer { AgreesUnlessMemory (λ plaintext. plaintext.items) result (decrypted (with_iterations most_iterations limits) keys.now (jwe_view jwe)) }
-    ensures work { work_view work.new
-        ≡ work_told (jwe_view jwe) (pairs_to_try (with_iterations most_iterations limits) keys.now (jwe_view jwe).recipients) result }
-    ensures bound { IsBounded (work_view work.new) }
+) -> (Work, Result<Vec<u8>, Refusal>)
+    ensures answer { AgreesUnlessMemory (λ plaintext. plaintext.items) result.1
+        (decrypted (with_iterations most_iterations limits) keys.now (jwe_view jwe)) }
+    ensures work { work_view result.0
+        ≡ work_told (jwe_view jwe) (pairs_to_try (with_iterations most_iterations limits) keys.now (jwe_view jwe).recipients) result.1 }
+    ensures bound { IsBounded (work_view result.0) }
 {
     let mut jwe = jwe;
     let mut octets = jwe.take_ciphertext(alloc);
-    let len = open_in_place(alloc, keys.keys(), &jwe, most_iterations, &mut octets, work)?;
-    octets.truncate(len);
-    Ok(octets)
+    let mut work = NO_WORK;
+    let opened = open_in_place(
+        alloc,
+        keys.keys(),
+        &jwe,
+        most_iterations,
+        &mut octets,
+        &mut work,
+    );
+    match opened {
+        Err(refusal) => (work, Err(refusal)),
+        Ok(len) => {
+            octets.truncate(len);
+            (work, Ok(octets))
+        }
+    }
 }
 
 /// Opens the ciphertext of the object where it stands, by the first pair that opens it, and answers the length of the plaintext. Refuses as

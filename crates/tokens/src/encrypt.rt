@@ -14,9 +14,11 @@ ghost use Rattle.octets.specs.declared.refusal.Refusal.{Refusal};
 ghost use Rattle.ciphers.specs.Sealing.{cek_len};
 ghost use Rattle.keys.specs.Keys.{fits};
 ghost use Rattle.keys.specs.Limits.{limits};
+ghost use Rattle.objects.specs.Code.JweMaking.{IsBuilt};
+ghost use Rattle.objects.specs.Code.Views.{jwe_view};
 ghost use Rattle.tokens.specs.Encrypting.{enc_plan, sealing_by, random_len, direct_key, cek_drawn, cek_by};
-ghost use Rattle.tokens.specs.Code.SealedTexts.{IsUnsealed, frame_by};
-ghost use Rattle.tokens.specs.Code.Views.{recipient_key_view, encryption_plan_view};
+ghost use Rattle.tokens.specs.Code.SealedTexts.{IsUnsealed, unsealed_object, unsealed_by, frame_by};
+ghost use Rattle.tokens.specs.Code.Views.{recipient_key_view, encryption_plan_view, delivery_view};
 
 mod ciphertext;
 mod deliver;
@@ -28,7 +30,7 @@ mod template;
 
 use crate::aad::additional_authenticated_data;
 use crate::encrypt::ciphertext::{Ciphertext, EncodedCiphertext};
-use crate::encrypt::deliver::{SALT_LEN, deliver_to_all, drawn_for_all};
+use crate::encrypt::deliver::{Delivery, MOST_FOR_RECIPIENT, deliver_to_all, drawn_for_all};
 use crate::encrypt::plan::EncryptionPlan;
 use crate::encrypt::recipient_key::RecipientKey;
 use crate::encrypt::recipients::{protected_header, recipients};
@@ -39,13 +41,19 @@ use ciphers::laws::{what_delivers_is_octets, what_is_opened_is_octets};
 use ciphers::{Cek, ContentSealer, Sealer};
 use keys::laws::are_octet_keys;
 use keys::{KeySet, MOST_KEYS};
-use objects::{Jwe, JweParts};
+use objects::{Jwe, MadeEncryptedObject, copy_header};
 use octets::laws::are_octets;
 use octets::{Input, Output, Refusal, b64_encode, draw};
 use std::alloc::Global;
 
-/// The most octets that are drawn: for each key a salt input, a content encryption key of 64, and an initialization vector of 16.
-const MOST_DRAWN: usize = MOST_KEYS * SALT_LEN + 80;
+/// The octets of the longest content encryption key (RFC 7518 section 5.2.5).
+const MOST_CEK: usize = 64;
+
+/// The octets of the longest initialization vector (RFC 7518 section 5.2.2.1).
+const MOST_IV: usize = 16;
+
+/// The most octets that are drawn: those for each recipient, the content encryption key, and the initialization vector.
+const MOST_DRAWN: usize = MOST_KEYS * MOST_FOR_RECIPIENT + MOST_CEK + MOST_IV;
 
 /// Reads the content to its end, encrypts it to each key in order (RFC 7516 section 5.1), as the template asks, and writes the object's
 /// text: with `compact` its compact text (section 7.1), and else its JSON text (section 7.2), flattened if there is one key. If there is an
@@ -163,6 +171,7 @@ fn begin_sealing(
     detach: bool,
 ) -> Result<PreparedEncryption, Refusal>
     requires long { length random.now ≡ random_len (encryption_plan_view encryption) }
+    requires built { IsBuilt limits (unsealed_by (encryption_plan_view encryption) random.now) }
     requires made { IsOk (frame_by limits compact detach (encryption_plan_view encryption) random.now) }
     ensures sealing { IfOk result
         (λ made. ⟦<ContentSealer as Sealer>⟧.is_sealing made.sealer (sealing_by (encryption_plan_view encryption.entry) random.now) []) }
@@ -178,7 +187,29 @@ fn begin_sealing(
     are_octets(cek.octets());
     let deliveries = deliver_to_all(alloc, &encryption, for_recipients, &cek)?;
     let alg = encryption.encryption;
+    let jwe = unsealed(alloc, encryption, deliveries, iv)?;
+    let sealer = {
+        let data = additional_authenticated_data(alloc, jwe.protected(), jwe.aad())?;
+        alg.seal(cek.octets(), iv, data.as_bytes())
+    };
+    let texts = jwe.frame(alloc, compact, detach)?;
+    Ok(PreparedEncryption { texts, sealer })
+}
+
+/// The object of what is encrypted, without a ciphertext and a tag.
+fn unsealed(
+    alloc: Global,
+    encryption: EncryptionPlan<'_>,
+    deliveries: Vec<Delivery>,
+    iv: &[u8],
+) -> Result<Jwe, Refusal>
+    requires { IsBuilt limits (unsealed_object (encryption_plan_view encryption) (map delivery_view deliveries.items) iv.now) }
+    ensures object { IfOk result (λ jwe. jwe_view jwe
+        ≡ unsealed_object (encryption_plan_view encryption.entry) (map delivery_view deliveries.items) iv.now) }
+    ensures memory { IfErr result (λ e. e ≡ Refusal.Memory) }
+{
     let EncryptionPlan {
+        encryption: enc,
         recipient_keys,
         given,
         protected,
@@ -188,27 +219,21 @@ fn begin_sealing(
     } = encryption;
     let alone = recipient_keys.len() <= 1;
     let header = protected_header(alloc, given, alone, &deliveries, protected)?;
-    let header = header_text(alloc, header)?;
-    let protected = b64_encode(alloc, header.as_bytes())?;
-    let sealer = {
-        let data = additional_authenticated_data(alloc, &protected, &aad)?;
-        alg.seal(cek.octets(), iv, data.as_bytes())
-    };
-    let recipients = recipients(alloc, given, alone, deliveries)?;
-    let jwe = Jwe::build(
+    let text = header_text(alloc, copy_header(alloc, Some(&header))?)?;
+    Jwe::made(
         alloc,
-        JweParts {
-            protected,
+        MadeEncryptedObject {
+            protected: b64_encode(alloc, text.as_bytes())?,
+            protected_members: header,
             unprotected,
             iv: iv.to_vec(alloc)?,
             aad,
             ciphertext: Vec::new(alloc),
             tag: Vec::new(alloc),
-            recipients,
+            enc,
+            recipients: recipients(alloc, given, alone, deliveries)?,
         },
-    )?;
-    let texts = jwe.frame(alloc, compact, detach)?;
-    Ok(PreparedEncryption { texts, sealer })
+    )
 }
 
 /// How many octets are drawn.
@@ -223,7 +248,7 @@ fn random_len(encryption: &EncryptionPlan<'_>) -> usize
 /// How many octets are drawn for the content encryption key.
 fn cek_drawn(encryption: &EncryptionPlan<'_>) -> usize
     ensures count { result ≡ cek_drawn (encryption_plan_view encryption.now) }
-    ensures bound { result ≤ 64 }
+    ensures bound { result ≤ MOST_CEK }
 {
     match direct_key(&encryption.recipient_keys) {
         Some(_) => 0,

@@ -7,7 +7,7 @@ ghost use Rattle.tokens.specs.Encrypting.{AreSound, EncryptedDecrypts, Encryptin
 ghost use Rattle.tokens.specs.MoreAlgorithms.{earlier_limits, earlier_management_algs, gcm_management_algs, knowing, OpensAlike};
 ghost use Rattle.tokens.specs.Signers.{AlikeKeysSignAlike};
 ghost use Rattle.tokens.specs.Signing.{SigningGrows, SigningMakesTexts};
-ghost use Rattle.tokens.specs.Verifying.{SignedVerifies};
+ghost use Rattle.tokens.specs.Verifying.{FirstVerifies, SignedVerifies};
 
 use ciphers::laws::{
     delivers_exactly, opens_exactly, what_delivers_is_octets, what_is_opened_is_octets,
@@ -30,6 +30,11 @@ pub fn what_is_signed_verifies()
 {
     jws_texts_spell_objects();
 }
+
+/// Some key verifies an object exactly if `jws_verified_by` names a first one, and the refusals are the same.
+pub fn first_verifies()
+    ensures { FirstVerifies }
+{}
 
 /// Keys of which HMAC makes the same block make the same signatures (RFC 2104 section 2). So they stand for one signer.
 pub fn alike_keys_sign_alike()

@@ -16,16 +16,18 @@ mod decrypt;
 mod encrypt;
 mod framed;
 mod headers;
+mod judging;
 pub mod laws;
 mod mac;
 mod sign;
 mod signing_input;
 mod verify;
 
-pub use decrypt::{Work, jwe_decrypt, jwe_decrypt_within};
+pub use decrypt::{Work, jwe_decrypt, jwe_decrypt_within, jwe_plaintext};
 pub use encrypt::jwe_encrypt;
+pub use judging::{KeyUses, key_uses};
 pub use sign::jws_sign;
-pub use verify::{jws_verify, jws_verify_detached, needs_signers};
+pub use verify::{jws_verified_by, jws_verify, jws_verify_detached, needs_signers};
 
 #[cfg(test)]
 mod tests;

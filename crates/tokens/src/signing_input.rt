@@ -36,9 +36,9 @@ pub(crate) trait SigningInput: Drop {
 /// A signing input for any of the signature algorithms.
 #[derive(Drop)]
 pub(crate) enum HmacInput {
-    Hs256(Hmac<Sha256>),
-    Hs384(Hmac<Sha384>),
-    Hs512(Hmac<Sha512>),
+    BySha256(Hmac<Sha256>),
+    BySha384(Hmac<Sha384>),
+    BySha512(Hmac<Sha512>),
 }
 
 impl HmacInput {
@@ -47,9 +47,9 @@ impl HmacInput {
         ensures { ⟦<HmacInput as SigningInput>⟧.has_taken result (signature_hash alg) key.now (protected.now ++ codes ".") }
     {
         match alg {
-            SignatureAlg::Hs256 => HmacInput::Hs256(started(key, protected)),
-            SignatureAlg::Hs384 => HmacInput::Hs384(started(key, protected)),
-            SignatureAlg::Hs512 => HmacInput::Hs512(started(key, protected)),
+            SignatureAlg::Hs256 => HmacInput::BySha256(started(key, protected)),
+            SignatureAlg::Hs384 => HmacInput::BySha384(started(key, protected)),
+            SignatureAlg::Hs512 => HmacInput::BySha512(started(key, protected)),
         }
     }
 }
@@ -64,17 +64,17 @@ impl SigningInput for HmacInput {
 
     fn take(&mut self, piece: &[u8]) {
         match self {
-            HmacInput::Hs256(mac) => mac.update(piece),
-            HmacInput::Hs384(mac) => mac.update(piece),
-            HmacInput::Hs512(mac) => mac.update(piece),
+            HmacInput::BySha256(mac) => mac.update(piece),
+            HmacInput::BySha384(mac) => mac.update(piece),
+            HmacInput::BySha512(mac) => mac.update(piece),
         }
     }
 
     fn sign(self) -> Mac {
         match self {
-            HmacInput::Hs256(mac) => Mac::finish(mac),
-            HmacInput::Hs384(mac) => Mac::finish(mac),
-            HmacInput::Hs512(mac) => Mac::finish(mac),
+            HmacInput::BySha256(mac) => Mac::finish(mac),
+            HmacInput::BySha384(mac) => Mac::finish(mac),
+            HmacInput::BySha512(mac) => Mac::finish(mac),
         }
     }
 }

@@ -10,7 +10,7 @@ ghost use Rattle.octets.specs.Code.Results.{Agrees};
 ghost use Rattle.keys.specs.Algorithms.{signature_alg_of};
 ghost use Rattle.keys.specs.Code.Views.{key_view};
 ghost use Rattle.objects.specs.Code.Views.{held_view, jws_view, signature_view};
-ghost use Rattle.tokens.specs.Verifying.{verifying_by, verified_payload, are_verified as are_verified_by, may_verify as may_verify_pair, verifies, candidate_alg, is_candidate as is_candidate_key};
+ghost use Rattle.tokens.specs.Verifying.{verifying_by, verified_payload, verified_by, first_signer, are_verified as are_verified_by, may_verify as may_verify_pair, verifies, candidate_alg, is_candidate as is_candidate_key};
 ghost use Rattle.tokens.specs.Code.Heads.{covers, has_made_alike as made_alike_by, pointed_views};
 
 mod detached;
@@ -57,6 +57,31 @@ pub fn jws_verify<O: Output>(
             jws.write_payload(out)
         }
     }
+}
+
+/// The place in the set, from 0, of the first key that verifies the object, for a caller whose keys belong to different parties. It refuses as
+/// `jws_verify` without `all` does, by the law `first_verifies`.
+#[tactic(auto, unfolding(crate::specs::Verifying::verified_by), using(crate::proofs::Elements::views))]
+pub fn jws_verified_by(keys: &KeySet, jws: &Jws<'_>) -> Result<usize, Refusal>
+    ensures { Agrees (λ place. place) result (verified_by keys.now (jws_view jws.now)) }
+{
+    let keys = keys.keys();
+    needs(has_supported(jws.signatures()), Refusal::Unsupported)?;
+    needs(
+        has_candidate(jws.signatures(), keys),
+        Refusal::KeyDoesNotFit,
+    )?;
+    first_signer(keys, jws).ok_or(Refusal::NotOpened)
+}
+
+/// The place of the first key that made a signature.
+fn first_signer(keys: &[Key], jws: &Jws<'_>) -> Option<usize>
+    ensures { result ≡ first_signer (map key_view keys.now) (jws_view jws.now) }
+{
+    let signatures = jws.signatures();
+    let heads = heads_of(signatures);
+    let heads = heads.list();
+    keys.iter().position(|key| has_signed(key, heads, signatures, jws.held_payload()))
 }
 
 /// The object verifies with some key, or with all. Refuses as `jws_verify` does.

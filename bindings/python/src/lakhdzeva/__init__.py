@@ -13,7 +13,7 @@ The shared library ``liblakhdzeva.so.3`` does the work. This module passes octet
 
 - ``keys`` is ``Keys``, which a service makes once, when it starts. It can also be one key, or a set of keys, which each call reads again: a
   dict, a list of dicts, or a JSON text (``str`` or ``bytes``), which is passed as it is.
-- ``wanted`` is the template that says what is wanted: a dict or a JSON text. ``None`` means ``{}``, which lets the keys decide.
+- ``template`` is a dict or a JSON text: the headers of a token, or the members of a key. ``None`` means ``{}``, which lets the keys decide.
 - A token is a ``str``, ``bytes``, or the dict of its JSON form. A function that makes a token returns a ``str``.
 - A payload, a plaintext and a ciphertext are octets: ``bytes``, ``bytearray`` or ``memoryview``.
 - A flag is ``True`` or ``False``, and nothing else that is true or false. A number is an ``int``.
@@ -47,12 +47,13 @@ from typing import Any, Dict, List, NamedTuple, Optional, Tuple
 
 from . import _arguments, _library, refusals
 from ._arguments import Json, Octets
-from ._keys import Hash, Keys, KeysLike, blamed, text_of, thumbprints_of
+from ._keys import Hash, Keys, KeysLike, KeyUses, blamed, text_of, thumbprints_of, uses_of
 from .refusals import BadToken, Fault, Refused, refused
 
 __all__ = [
     "BadToken",
     "Fault",
+    "KeyUses",
     "Keys",
     "Refused",
     "decrypt",
@@ -63,6 +64,7 @@ __all__ = [
     "format_signed",
     "format_signed_detached",
     "generate",
+    "judge_keys",
     "library",
     "refusals",
     "sign",
@@ -112,15 +114,15 @@ def _made(function: Any, arguments: Tuple[Any, ...], *rooms: int) -> List[_libra
 # ---- Keys
 
 
-def generate(wanted: Optional[Json] = None) -> Dict[str, Any]:
+def generate(template: Optional[Json] = None) -> Dict[str, Any]:
     """Makes a key (RFC 7517) from random octets of the system.
 
-    ``wanted`` has the members of the key, for example ``{"alg": "HS256"}`` or ``{"alg": "A256GCM", "kid": "7"}``. ``{"bytes": 32}`` gives a
-    key of 32 octets without an algorithm. If it has an ``alg``, but no ``use`` and no ``key_ops``, the key gets the ``key_ops`` of the ``alg``.
+    ``template`` has the members of the key, for example ``{"alg": "HS256"}`` or ``{"alg": "A256GCM", "kid": "7"}``. ``{"bytes": 32}`` gives
+    a key of 32 octets without an algorithm. If it has an ``alg``, but no ``use`` and no ``key_ops``, the key gets the ``key_ops`` of the ``alg``.
 
     Refusals: Json, Number and Key for a bad template, Limit, Unsupported, NoAlgorithm, KeyDoesNotFit, Random, Memory.
     """
-    text = _arguments.template(wanted)
+    text = _arguments.template(template)
     (place,) = _made(_library.generate, (text, len(text)), _library.generate_room(len(text)))
     key: Dict[str, Any] = json.loads(place.text())
     return key
@@ -148,35 +150,48 @@ def thumbprint(key: KeysLike, hash: Hash = "S256") -> str:
     return lines[0]
 
 
+def judge_keys(keys: KeysLike) -> List[KeyUses]:
+    """Returns what each member of a set of keys may do, in order. A key that is alone is the one member.
+
+    ``Keys.uses`` is the same, and is judged once. A member with ``good=False`` is no octet key, or a damaged one.
+
+    - A key may do something if it may by some algorithm. Whether it fits a token shows when that comes.
+    - Whoever has a key can do with it what it may not do: ``use`` and ``key_ops`` are rules for this library and others like it.
+
+    Refusals: Json, Number, Key, Limit, Memory.
+    """
+    return uses_of(keys)
+
+
 # ---- Signed tokens
 
 
-def _signed(keys: KeysLike, payload: Octets, wanted: Optional[Json], flags: int) -> str:
-    text, template, octets = text_of(keys), _arguments.template(wanted), _arguments.octets("payload", payload)
-    room = _library.sign_room(len(text), len(template), 0 if flags & _library.DETACH else len(octets))
-    return _made(_library.sign, (text, len(text), template, len(template), flags, octets, len(octets)), room)[0].text()
+def _signed(keys: KeysLike, payload: Octets, template: Optional[Json], flags: int) -> str:
+    text, template_text, octets = text_of(keys), _arguments.template(template), _arguments.octets("payload", payload)
+    room = _library.sign_room(len(text), len(template_text), 0 if flags & _library.DETACH else len(octets))
+    return _made(_library.sign, (text, len(text), template_text, len(template_text), flags, octets, len(octets)), room)[0].text()
 
 
-def sign(keys: KeysLike, payload: Octets, wanted: Optional[Json] = None, *, compact: bool = True) -> str:
+def sign(keys: KeysLike, payload: Octets, template: Optional[Json] = None, *, compact: bool = True) -> str:
     """Signs the payload with each of the keys (RFC 7515, section 5.1) and returns the token.
 
-    ``wanted`` has the headers, for example ``{"protected": {"alg": "HS256", "kid": "7"}}``. Without an algorithm, the key's ``alg`` or its
-    length decides. Compact form holds one signature. JSON form (``compact=False``) holds one for each key.
+    ``template`` has the headers, for example ``{"protected": {"alg": "HS256", "kid": "7"}}``. Without an algorithm, the key's ``alg`` or
+    its length decides. Compact form holds one signature. JSON form (``compact=False``) holds one for each key.
 
     The payload is in the token as it is, and not secret. ``header`` in the template is a header that is not signed.
 
     Refusals: Json, Number, Key and Limit for bad keys; Json, Number, Form, Header and Unsupported for a bad template; NoAlgorithm,
     KeyDoesNotFit, Limit, NotCompact, Memory.
     """
-    return _signed(keys, payload, wanted, _arguments.form(compact))
+    return _signed(keys, payload, template, _arguments.form(compact))
 
 
-def sign_detached(keys: KeysLike, payload: Octets, wanted: Optional[Json] = None, *, compact: bool = True) -> str:
+def sign_detached(keys: KeysLike, payload: Octets, template: Optional[Json] = None, *, compact: bool = True) -> str:
     """Signs the payload with each of the keys and returns the token without the payload (RFC 7515, appendix F).
 
     The rest is as for ``sign``.
     """
-    return _signed(keys, payload, wanted, _arguments.form(compact) | _library.DETACH)
+    return _signed(keys, payload, template, _arguments.form(compact) | _library.DETACH)
 
 
 def verify(keys: KeysLike, token: Json, *, all: bool = False) -> bytes:
@@ -256,22 +271,22 @@ def verify_all_detached(keys: KeysLike, signers: int, token: Json, payload: Octe
 # ---- Encrypted tokens
 
 
-def _encrypted(keys: KeysLike, plaintext: Octets, wanted: Optional[Json], flags: int) -> Tuple[str, bytes]:
-    text, template, octets = text_of(keys), _arguments.template(wanted), _arguments.octets("plaintext", plaintext)
+def _encrypted(keys: KeysLike, plaintext: Octets, template: Optional[Json], flags: int) -> Tuple[str, bytes]:
+    text, template_text, octets = text_of(keys), _arguments.template(template), _arguments.octets("plaintext", plaintext)
     detached = flags & _library.DETACH
     token, ciphertext = _made(
         _library.encrypt,
-        (text, len(text), template, len(template), flags, octets, len(octets)),
-        _library.encrypt_room(len(text), len(template), 0 if detached else len(octets)),
+        (text, len(text), template_text, len(template_text), flags, octets, len(octets)),
+        _library.encrypt_room(len(text), len(template_text), 0 if detached else len(octets)),
         _library.ciphertext_room(len(octets)) if detached else 0,
     )
     return token.text(), ciphertext.content()
 
 
-def encrypt(keys: KeysLike, plaintext: Octets, wanted: Optional[Json] = None, *, compact: bool = True) -> str:
+def encrypt(keys: KeysLike, plaintext: Octets, template: Optional[Json] = None, *, compact: bool = True) -> str:
     """Encrypts the plaintext to each of the keys (RFC 7516, section 5.1) and returns the token.
 
-    ``wanted`` has the headers, for example ``{"protected": {"alg": "A256KW", "enc": "A256GCM"}}``. Without algorithms, the key's ``alg``
+    ``template`` has the headers, for example ``{"protected": {"alg": "A256KW", "enc": "A256GCM"}}``. Without algorithms, the key's ``alg``
     or its length decides. Compact form holds one recipient. JSON form (``compact=False``) holds one for each key.
 
     - The recipients share its random key, so each of them can put another plaintext into the token.
@@ -284,15 +299,15 @@ def encrypt(keys: KeysLike, plaintext: Octets, wanted: Optional[Json] = None, *,
     Refusals: Json, Number, Key and Limit for bad keys; Json, Number, Form, Base64, Header and Unsupported for a bad template;
     NoAlgorithm, KeyDoesNotFit, Limit, NotCompact, Random, Memory.
     """
-    return _encrypted(keys, plaintext, wanted, _arguments.form(compact))[0]
+    return _encrypted(keys, plaintext, template, _arguments.form(compact))[0]
 
 
-def encrypt_detached(keys: KeysLike, plaintext: Octets, wanted: Optional[Json] = None, *, compact: bool = True) -> Tuple[str, bytes]:
+def encrypt_detached(keys: KeysLike, plaintext: Octets, template: Optional[Json] = None, *, compact: bool = True) -> Tuple[str, bytes]:
     """Encrypts the plaintext to each of the keys, and returns the token without its ciphertext, and the ciphertext.
 
     The rest is as for ``encrypt``.
     """
-    return _encrypted(keys, plaintext, wanted, _arguments.form(compact) | _library.DETACH)
+    return _encrypted(keys, plaintext, template, _arguments.form(compact) | _library.DETACH)
 
 
 def decrypt(keys: KeysLike, token: Json, *, ciphertext: Optional[Octets] = None, iterations: int = 0) -> bytes:

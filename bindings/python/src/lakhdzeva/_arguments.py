@@ -60,7 +60,7 @@ def json_text(name: str, value: Any) -> bytes:
 
 
 def template(value: Optional[Json]) -> bytes:
-    return b"{}" if value is None else json_text("wanted", value)
+    return b"{}" if value is None else json_text("template", value)
 
 
 def octets(name: str, value: Any) -> bytes:

@@ -5,7 +5,7 @@ from __future__ import annotations
 import os
 from base64 import urlsafe_b64encode
 from pathlib import Path
-from typing import Any, Dict, List, Literal, Type, Union
+from typing import Any, Dict, List, Literal, NamedTuple, Type, Union
 
 from . import _arguments, _library
 from ._arguments import Octets
@@ -14,13 +14,6 @@ from .refusals import BadToken, Fault, Refused, refused
 Hash = Literal["S224", "S256", "S384", "S512", "sha224", "sha256", "sha384", "sha512"]
 KeysLike = Union["Keys", Dict[str, Any], List[Dict[str, Any]], str, bytes]
 
-# Tokens that nobody signed, one for each algorithm, with a signature of its length. If a key may verify the algorithm, the refusal is NotOpened.
-_FORGED = [
-    b"eyJhbGciOiJIUzI1NiJ9.." + b"A" * 43,
-    b"eyJhbGciOiJIUzM4NCJ9.." + b"A" * 64,
-    b"eyJhbGciOiJIUzUxMiJ9.." + b"A" * 86,
-]
-_NOT_OPENED = 17
 _SHA256 = _arguments.hash_bits("S256")
 
 
@@ -40,9 +33,32 @@ def _thumbprints(text: bytes, bits: int) -> List[str]:
     return places[0].text().split("\n")
 
 
-def _can_verify(text: bytes) -> bool:
-    calls = (_library.written(_library.verify, (text, len(text), token, len(token), 0), len(token)) for token in _FORGED)
-    return any(status == _NOT_OPENED for status, _ in calls)
+def _judged(text: bytes) -> bytes:
+    """The number of each member of the text, as in lakhdzeva.h."""
+    status, places = _library.written(_library.judge_keys, (text, len(text)), _library.judge_keys_room(len(text)))
+    if status:
+        raise refused(status, Fault)
+    return places[0].content()
+
+
+def _may(numbers: bytes, use: int) -> bool:
+    return any(number & use for number in numbers)
+
+
+class KeyUses(NamedTuple):
+    """Whether a member of a text of keys is a good key, and what it may do by some algorithm."""
+
+    good: bool
+    sign: bool
+    verify: bool
+    encrypt: bool
+    decrypt: bool
+
+
+def uses_of(keys: Any) -> List[KeyUses]:
+    numbers: bytes = _NUMBERS(keys, type(keys)) if issubclass(type(keys), Keys) else _judged(_text_of(keys))
+    names = (_library.GOOD, _library.MAY_SIGN, _library.MAY_VERIFY, _library.MAY_ENCRYPT, _library.MAY_DECRYPT)
+    return [KeyUses(*(bool(number & name) for name in names)) for number in numbers]
 
 
 class Keys:
@@ -51,21 +67,22 @@ class Keys:
     ``keys`` is a dict, a list of dicts, or the JSON text of a key or of a set. ``Keys.from_file`` reads this text from a file, and
     ``Keys.from_secret`` makes a key from the octets of a secret. A text that has no good key, or more than 64, is refused as a ``Fault``.
 
-    With ``Keys`` a refusal of ``verify`` and ``decrypt`` is about the token, except for ``Memory``. Some things are not judged:
+    With ``Keys`` a refusal of ``verify`` and ``decrypt`` is about the token, except for ``Memory``. A service asks two things when it starts:
 
-    - Bad keys of a set are passed over. ``len(keys)`` is the number of the good ones: compare it with the number that you expect.
-    - Whether a key may sign, encrypt or decrypt shows at the first call. ``can_verify`` says whether one of them may verify signatures.
+    - Bad keys of a set are passed over. ``len(keys)`` is the number of the good ones: compare it with the number that you expect. ``uses`` says
+      which are bad, and what each of the others may do.
+    - ``can_sign``, ``can_verify``, ``can_encrypt`` and ``can_decrypt`` say whether one of them may. To sign and to encrypt, all of them must.
 
     Every function that takes keys takes ``Keys``, and does not write their JSON again. The printed form shows no secret and no thumbprint.
     ``bytes(keys)`` is the JSON text, with the secrets.
     """
 
-    __slots__ = ("_can_verify", "_text", "_thumbprints")
+    __slots__ = ("_numbers", "_text", "_thumbprints")
 
     def __init__(self, keys: KeysLike) -> None:
         self._text = text_of(keys)
+        self._numbers = _judged(self._text)
         self._thumbprints = _thumbprints(self._text, _SHA256)
-        self._can_verify = _can_verify(self._text)
 
     @classmethod
     def from_file(cls, path: Union[str, "os.PathLike[str]"]) -> "Keys":
@@ -85,22 +102,35 @@ class Keys:
             raise TypeError(f"alg must be a str, not {type(alg).__name__}")
         key = {"kty": "oct", "alg": alg, "k": urlsafe_b64encode(octets).rstrip(b"=").decode(), **({"kid": kid} if kid else {})}
         made = cls(key)
-        # What may sign or encrypt nothing is refused here: another algorithm, or a length that does not fit. A password may have any length.
-        status, text = 0, made._text
-        if alg.startswith("HS"):
-            room = _library.sign_room(len(text), 0, 0)
-            status, _ = _library.written(_library.sign, (text, len(text), None, 0, _library.COMPACT, b"", 0), room)
-        elif not alg.startswith("PBES2"):
-            room = _library.encrypt_room(len(text), 0, 0)
-            status, _ = _library.written(_library.encrypt, (text, len(text), None, 0, _library.COMPACT, b"", 0), room, 0)
-        if status:
-            raise refused(status, Fault)
+        # What may do nothing is refused here: another algorithm, or a length that does not fit. A password may have any length.
+        if made._numbers == bytes([_library.GOOD]):
+            raise refused(_KEY_DOES_NOT_FIT, Fault)
         return made
+
+    @property
+    def uses(self) -> List[KeyUses]:
+        """What each member of the set may do, in order, with the bad ones. The set of a key that is alone has one member."""
+        return uses_of(self)
+
+    @property
+    def can_sign(self) -> bool:
+        """Whether one of the keys may sign by some algorithm."""
+        return _may(self._numbers, _library.MAY_SIGN)
 
     @property
     def can_verify(self) -> bool:
         """Whether one of the keys may verify signatures. A service that verifies tokens asks this when it starts."""
-        return self._can_verify
+        return _may(self._numbers, _library.MAY_VERIFY)
+
+    @property
+    def can_encrypt(self) -> bool:
+        """Whether one of the keys may encrypt by some algorithms."""
+        return _may(self._numbers, _library.MAY_ENCRYPT)
+
+    @property
+    def can_decrypt(self) -> bool:
+        """Whether one of the keys may decrypt by some algorithms."""
+        return _may(self._numbers, _library.MAY_DECRYPT)
 
     def thumbprints(self, hash: Hash = "S256") -> List[str]:
         """The thumbprints (RFC 7638) of the good keys, in order. That of a password is not safe to publish: it lets anyone test guesses."""
@@ -118,7 +148,7 @@ class Keys:
 
 
 # These slots are read so that a class that is derived from Keys answers nothing else.
-_TEXT, _CAN_VERIFY = Keys.__dict__["_text"].__get__, Keys.__dict__["_can_verify"].__get__
+_TEXT, _NUMBERS = Keys.__dict__["_text"].__get__, Keys.__dict__["_numbers"].__get__
 
 
 def text_of(keys: Any) -> bytes:
@@ -144,10 +174,10 @@ def blamed(status: int, keys: Any = None, verifying: bool = False) -> Refused:
     parent: Type[Refused] = Fault if status in _FAULTS or status == _KEY else BadToken
     if status in _EITHER and keys is not None and not issubclass(type(keys), Keys):
         try:
-            _thumbprints(_text_of(keys), _SHA256)
+            _judged(_text_of(keys))
         except Refused:
             parent = Fault
     elif status == _KEY_DOES_NOT_FIT and verifying:
-        can_verify = _CAN_VERIFY(keys, Keys) if issubclass(type(keys), Keys) else _can_verify(_text_of(keys))
-        parent = BadToken if can_verify else Fault
+        numbers = _NUMBERS(keys, Keys) if issubclass(type(keys), Keys) else _judged(_text_of(keys))
+        parent = BadToken if _may(numbers, _library.MAY_VERIFY) else Fault
     return refused(status, parent)

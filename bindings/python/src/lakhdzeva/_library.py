@@ -52,6 +52,7 @@ def _room(name: str, lengths: int) -> Any:
 name_of, version = function("name", c_uint32, result=c_char_p), function("version", result=c_char_p)
 generate, generate_room = function("generate", *_TEXT, *_PLACE), _room("generate", 1)
 thumbprints, thumbprints_room = function("thumbprints", *_TEXT, c_uint, *_PLACE), _room("thumbprints", 1)
+judge_keys, judge_keys_room = function("judge_keys", *_TEXT, *_PLACE), _room("judge_keys", 1)
 sign, sign_room = function("sign", *_TEXT, *_TEXT, c_uint, *_TEXT, *_PLACE), _room("sign", 3)
 verify, verify_room = function("verify", *_TEXT, *_TEXT, c_uint, *_PLACE), _room("verify", 1)
 verify_detached = function("verify_detached", *_TEXT, *_TEXT, c_uint, *_TEXT)
@@ -65,6 +66,9 @@ format_room, content_room, ciphertext_room = _room("format", 2), _room("content"
 
 # enum lakhdzeva_flags in lakhdzeva.h.
 COMPACT, DETACH, ALL = 1, 2, 4
+
+# enum lakhdzeva_uses in lakhdzeva.h.
+MAY_SIGN, MAY_VERIFY, MAY_ENCRYPT, MAY_DECRYPT, GOOD = 1, 2, 4, 8, 16
 
 
 class _Symbol(ctypes.Structure):

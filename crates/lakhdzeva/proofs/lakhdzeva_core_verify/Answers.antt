@@ -1,4 +1,4 @@
 use Rattle.lakhdzeva.proofs.lakhdzeva_core_verify.Goals as goal
 
 pub returns : goal.returns
-returns c = c.deliver.ensures _ c.payload_of.ensures
+returns c = c.deliver_payload.ensures _ c.verified_object.ensures

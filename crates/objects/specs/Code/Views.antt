@@ -7,6 +7,7 @@ use Rattle.serde_json.specs.Data.{Members, no_members}
 use Rattle.serde_json.specs.View.{members_view}
 use Rattle.serde_json.specs.declared.value.Value.{Value}
 use Rattle.octets.specs.Base64url.{base64url}
+use Rattle.ciphers.specs.Algorithms.{management_name, encryption_name}
 use Rattle.objects.specs.Headers.{all_members}
 use Rattle.objects.specs.Jwe.{RecipientParts, Recipient, JweParts, EncryptedObject}
 use Rattle.objects.specs.Jws.{SignatureParts, JwsParts, Signature, DecodedSignature, HeadedSignature, SignedObject}
@@ -20,6 +21,8 @@ use Rattle.objects.specs.declared.header.Header as header
 use Rattle.objects.specs.declared.jwe.Jwe as jwe
 use Rattle.objects.specs.declared.jwe.parts.JweMembers as jwe_members
 use Rattle.objects.specs.declared.jwe.parts.JweParts as jwe_parts
+use Rattle.objects.specs.declared.jwe.parts.MadeEncryptedObject as made_jwe
+use Rattle.objects.specs.declared.jwe.parts.MadeRecipient as made_recipient
 use Rattle.objects.specs.declared.jwe.encoded.EncodedJwe as texts
 use Rattle.objects.specs.declared.jwe.encoded.EncodedRecipient as encoded_recipient
 use Rattle.objects.specs.declared.jws.parts.DecodedSignature as decoded
@@ -151,6 +154,16 @@ recipient_view r = record {
   management = management_view r.named.management;
 }
 
+-- with the name of its content encryption
+abbrev pub made_recipient_view : List ℕ → made_recipient.MadeRecipient → Recipient
+made_recipient_view enc m = record {
+  header = members_view m.parts.header.entries;
+  encrypted_key = m.parts.encrypted_key.items;
+  alg = management_name m.alg;
+  enc = enc;
+  management = management_view m.management;
+}
+
 abbrev pub encoded_recipient_view : encoded_recipient.EncodedRecipient → RecipientParts
 encoded_recipient_view t = record { header = members_view t.header.map.entries; encrypted_key = t.encrypted_key.now }
 
@@ -185,6 +198,18 @@ jwe_members_view m = record {
   ciphertext = m.ciphertext.items;
   tag = m.tag.items;
   recipients = map recipient_members_view m.recipients.items;
+}
+
+abbrev pub made_jwe_view : made_jwe.MadeEncryptedObject → EncryptedObject
+made_jwe_view m = record {
+  protected = string_bytes m.protected;
+  protected_members = members_view m.protected_members.entries;
+  unprotected = members_view m.unprotected.entries;
+  iv = m.iv.items;
+  aad = m.aad.items;
+  ciphertext = m.ciphertext.items;
+  tag = m.tag.items;
+  recipients = map (made_recipient_view (encryption_name m.enc)) m.recipients.items;
 }
 
 abbrev pub jwe_view : jwe.Jwe → EncryptedObject

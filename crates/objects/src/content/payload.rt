@@ -1,6 +1,6 @@
 //! The payload of a signed object, as the base64url text that was received or as octets. A text is checked and written in pieces, without
 //! memory.
-ghost use Rattle.std.specs.Prelude.{◌≡◌, ◌++◌, Err, IfOk, IfErr, OnOk, OnErr};
+ghost use Rattle.std.specs.Prelude.{◌≡◌, ◌≤◌, ◌++◌, length, drop, Err, IfOk, IfErr, OnOk, OnErr};
 ghost use Rattle.octets.specs.Base64url.{base64url, decoded};
 ghost use Rattle.octets.specs.Devices.{next_count, AppendsPrefixOf, IsFinishedOnce};
 ghost use Rattle.octets.specs.Code.Results.{Agrees};
@@ -10,8 +10,8 @@ ghost use Rattle.objects.specs.Code.Meaning.{meaning};
 use crate::content::received_text::ReceivedText;
 use octets::laws::are_octets;
 use octets::{
-    B64Reader, Output, PIECE, PIECE_TEXT, Refusal, Transform, b64_decode, emit, needs,
-    without_line_end, write_whole,
+    B64Reader, Output, PIECE, PIECE_TEXT, Refusal, Transform, b64_decode, b64_decode_onto, emit,
+    needs, without_line_end, write_whole,
 };
 use std::alloc::Global;
 
@@ -72,6 +72,27 @@ impl<'t> Payload<'t> {
 }
 
 impl HeldContent<'_> {
+    /// How many octets it has.
+    pub fn len(&self) -> usize
+        ensures { result ≡ length (held_view self.now) }
+    {
+        match self {
+            HeldContent::Text(text) => meaning_len(text),
+            HeldContent::Octets(octets) => octets.len(),
+        }
+    }
+
+    /// Copies the octets to the front of `out`, which must have room for them, without memory.
+    pub fn copy_onto(&self, out: &mut [u8])
+        requires { length (held_view self.now) ≤ length out.old }
+        ensures { out.new ≡ held_view self.now ++ drop (length (held_view self.now)) out.old }
+    {
+        match self {
+            HeldContent::Text(text) => meaning_onto(text, out),
+            HeldContent::Octets(octets) => octets_onto(octets, out),
+        }
+    }
+
     /// Writes the octets and finishes the output, without memory. If the output fails, a beginning of them is written.
     pub fn write<O: Output>(&self, out: &mut O) -> Result<(), Refusal>
         ensures all { OnOk result (O.written out.new ≡ O.written out.old ++ held_view self.now) }
@@ -146,4 +167,28 @@ fn copied(alloc: Global, octets: &[u8]) -> Result<Vec<u8>, Refusal>
     let mut copy = Vec::new(alloc);
     copy.extend_from_slice(octets)?;
     Ok(copy)
+}
+
+/// How many octets the text means: three for each four characters, and one or two for the two or three after them.
+fn meaning_len(text: &ReceivedText<'_>) -> usize
+    ensures { result ≡ length (received_view text.now) }
+{
+    let characters = text.text.len();
+    characters / 4 * 3 + characters % 4 * 3 / 4
+}
+
+/// Writes the octets of the text to the front of `out`.
+fn meaning_onto(text: &ReceivedText<'_>, out: &mut [u8])
+    requires { length (received_view text.now) ≤ length out.old }
+    ensures { out.new ≡ received_view text.now ++ drop (length (received_view text.now)) out.old }
+{
+    b64_decode_onto(text.text, out);
+}
+
+/// Copies the octets to the front of `out`.
+fn octets_onto(octets: &[u8], out: &mut [u8])
+    requires { length octets.now ≤ length out.old }
+    ensures { out.new ≡ octets.now ++ drop (length octets.now) out.old }
+{
+    out[..octets.len()].copy_from_slice(octets);
 }

@@ -1,17 +1,23 @@
 //! Encrypted objects that are made of their members.
-ghost use Rattle.std.specs.Prelude.{◌≡◌, true, map, nat_le, suc, IfOk, IfErr};
+ghost use Rattle.std.specs.Prelude.{◌≡◌, true, length, map, nat_le, suc, IfOk, IfErr};
 ghost use Rattle.std.specs.List.{list_all};
 ghost use Rattle.serde_json.specs.Data.{members_depth};
 ghost use Rattle.octets.specs.Code.Results.{AgreesUnlessMemory};
 ghost use Rattle.keys.specs.Json.{member_numbers_are_whole};
 ghost use Rattle.keys.specs.Limits.{limits};
 ghost use Rattle.objects.specs.Jwe.{AreMembers, IsMade, built, headers_are_shallow as headers_are_shallow_of, have_whole_numbers as have_whole_numbers_parts};
-ghost use Rattle.objects.specs.Code.Views.{jwe_view, jwe_members_view, jwe_parts_view, recipient_members_view, recipient_parts_view};
+ghost use Rattle.objects.specs.Code.JweMaking.{IsBuilt, is_as_read};
+ghost use Rattle.objects.specs.Code.Views.{jwe_view, jwe_members_view, jwe_parts_view, made_jwe_view, recipient_view, recipient_members_view, recipient_parts_view, made_recipient_view};
 
 use crate::header::depth::{HEADER_DEPTH, depth_of_each};
 use crate::header::parts::with_whole_numbers;
-use crate::jwe::parts::{JweMembers, JweParts, RecipientMembers, RecipientParts};
+use crate::jwe::parts::{
+    JweMembers, JweParts, MadeEncryptedObject, MadeRecipient, RecipientMembers, RecipientParts,
+};
+use crate::jwe::recipient::Recipient;
+use crate::jwe::recipient_list::RecipientList;
 use crate::jwe::{Jwe, encrypted_object};
+use crate::shared::SharedText;
 use keys::{MOST_RECIPIENTS, members_have_whole_numbers, object_nests_at_most};
 use octets::{Refusal, b64_decode, needs};
 use std::alloc::Global;
@@ -26,6 +32,57 @@ impl Jwe {
     {
         object_of_parts(alloc, parts)
     }
+
+    /// The object that was made. None of its texts is read again, so it must be what `build` returns for its members. Fails only with
+    /// `Memory`.
+    pub fn made(alloc: Global, made: MadeEncryptedObject) -> Result<Jwe, Refusal>
+        requires { IsBuilt limits (made_jwe_view made) }
+        ensures exact { IfOk result (λ jwe. jwe_view jwe ≡ made_jwe_view made) }
+        ensures memory { IfErr result (λ e. e ≡ Refusal.Memory) }
+    {
+        let MadeEncryptedObject {
+            protected,
+            protected_members,
+            unprotected,
+            iv,
+            aad,
+            ciphertext,
+            tag,
+            enc,
+            recipients,
+        } = made;
+        let enc = SharedText::new(alloc, enc.name())?;
+        let recipients = made_recipients(alloc, &enc, recipients)?;
+        Ok(Jwe {
+            protected,
+            protected_members,
+            unprotected: with_whole_numbers(unprotected),
+            iv,
+            aad,
+            ciphertext,
+            tag,
+            recipients: RecipientList { list: recipients },
+        })
+    }
+}
+
+/// The recipients that were made, with the name of their content encryption.
+#[tactic(auto, using(crate::proofs::Each::views))]
+fn made_recipients(
+    alloc: Global,
+    enc: &SharedText,
+    made: Vec<MadeRecipient>,
+) -> Result<Vec<Recipient>, Refusal>
+    requires { list_all (λ m. is_as_read (made_recipient_view enc.now m)) made.items ≡ true }
+    ensures recipients { IfOk result (λ recipients. map recipient_view recipients.items ≡ map (made_recipient_view enc.now) made.items) }
+    ensures as_many { IfOk result (λ recipients. length recipients.items ≡ length made.items) }
+    ensures memory { IfErr result (λ e. e ≡ Refusal.Memory) }
+{
+    let mut recipients = Vec::new(alloc);
+    for recipient in made {
+        recipients.push(Recipient::made(alloc, enc, recipient)?)?;
+    }
+    Ok(recipients)
 }
 
 /// The object with these members.

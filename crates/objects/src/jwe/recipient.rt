@@ -1,5 +1,5 @@
 //! The recipients of an encrypted object (RFC 7516), by their headers.
-ghost use Rattle.std.specs.Prelude.{◌≡◌, true, length, map, IfOk};
+ghost use Rattle.std.specs.Prelude.{◌≡◌, true, length, map, IfOk, IfErr};
 ghost use Rattle.serde_json.specs.View.{members_view};
 ghost use Rattle.octets.specs.Code.Results.{AgreesUnlessMemory};
 ghost use Rattle.ciphers.specs.Algorithms.{management_alg_of};
@@ -7,14 +7,15 @@ ghost use Rattle.keys.specs.Limits.{limits};
 ghost use Rattle.objects.specs.Jwe.{recipient_of, has_no_crit_or_zip, recipients_of, recipients_of_one_enc, have_one_enc as have_one_enc_of};
 ghost use Rattle.objects.specs.Code.KeyManagementView.{management_view, is_management_of};
 ghost use Rattle.objects.specs.Code.SharedParameters.{IsReadFrom};
-ghost use Rattle.objects.specs.Code.Views.{recipient_view, recipient_members_view};
+ghost use Rattle.objects.specs.Code.JweMaking.{is_as_read};
+ghost use Rattle.objects.specs.Code.Views.{recipient_view, recipient_members_view, made_recipient_view};
 ghost use Rattle.std.specs.List.{list_all};
 ghost use Rattle.std.specs.Str.{bytes_eq};
 
 use crate::KeyManagement;
 use crate::header::members::HeaderMembers;
-use crate::header::parts::{has_no_crit, part_member};
-use crate::jwe::parts::RecipientMembers;
+use crate::header::parts::{has_no_crit, part_member, with_whole_numbers};
+use crate::jwe::parts::{MadeRecipient, RecipientMembers, RecipientParts};
 use crate::jwe::shared_header::SharedHeader;
 use crate::key_management::named::NamedManagement;
 use crate::key_management::read_key_management;
@@ -63,6 +64,36 @@ fn read_recipient(
 }
 
 impl Recipient {
+    /// The recipient that was made, with the name of its content encryption. Fails only with `Memory`.
+    pub(crate) fn made(
+        alloc: Global,
+        enc: &SharedText,
+        made: MadeRecipient,
+    ) -> Result<Recipient, Refusal>
+        requires { is_as_read (made_recipient_view enc.now made) ≡ true }
+        ensures recipient { IfOk result (λ recipient. recipient_view recipient ≡ made_recipient_view enc.now made) }
+        ensures memory { IfErr result (λ e. e ≡ Refusal.Memory) }
+    {
+        let MadeRecipient {
+            parts,
+            alg,
+            management,
+        } = made;
+        let RecipientParts {
+            header,
+            encrypted_key,
+        } = parts;
+        Ok(Recipient {
+            header: with_whole_numbers(header),
+            encrypted_key,
+            named: NamedManagement {
+                alg: SharedText::new(alloc, alg.name())?,
+                management,
+            },
+            enc: enc.share()?,
+        })
+    }
+
     /// Its per-recipient unprotected header (RFC 7516 section 7.2.1): the member `header`.
     pub fn header(&self) -> &Map<String, Value>
         ensures { members_view result.now.entries ≡ (recipient_view self.now).header }

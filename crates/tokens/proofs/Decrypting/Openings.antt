@@ -1,5 +1,5 @@
 -- The plaintext that a pair opens follows from the contracts of its ciphers.
-use Rattle.std.proofs.Common.{◌≡◌, ◌↔◌, ℕ, ◌≤◌, Bool, true, List, [], ◌∷◌, length, map, Option, Some, None, IfSome, IfNone, option_map, option_and_then, cond, take, refl, sym, ap, ◌∙◌}
+use Rattle.std.proofs.Common.{◌≡◌, ◌↔◌, ℕ, ◌≤◌, true, List, [], ◌∷◌, length, map, Option, Some, None, IfSome, IfNone, option_map, option_and_then, cond, take, refl, sym, ap, ◌∙◌}
 use Rattle.std.specs.Option.{option_or}
 use Rattle.octets.specs.Octets.{IsOctets}
 use Rattle.ciphers.specs.declared.content_alg.ContentAlg.{ContentAlg}

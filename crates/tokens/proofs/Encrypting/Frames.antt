@@ -1,6 +1,7 @@
 -- The texts around the ciphertext and the tag of an encrypted object.
-use Rattle.std.proofs.Common.{◌≡◌, ℕ, ◌≤◌, Bool, true, false, List, [], ◌∷◌, ◌++◌, length, Result, Ok, Err, refl, sym, ap, ◌∙◌, subst, arith, length-drop}
+use Rattle.std.proofs.Common.{◌≡◌, ℕ, ◌≤◌, Bool, true, false, List, [], ◌∷◌, ◌++◌, length, map, Result, Ok, Err, refl, sym, ap, ◌∙◌, subst, arith, length-drop}
 use Rattle.std.proofs.lemmas.Bool.{le-leb}
+use Rattle.std.proofs.lemmas.Simd.{map-map}
 use Rattle.octets.specs.declared.refusal.Refusal.{Refusal}
 use Rattle.octets.specs.declared.refusal.Refusal.TheVariants.{NotCompact}
 use Rattle.octets.specs.Base64url.{base64url}
@@ -8,29 +9,60 @@ use Rattle.octets.specs.Octets.{IsOctets}
 use Rattle.octets.specs.Outcomes.{◌>>=◌}
 use Rattle.octets.specs.Plan.{plan_from}
 use Rattle.octets.proofs.Lemmas.{IsOctets-nil, first_or, IsOctets-drop}
+use Rattle.ciphers.specs.Algorithms.{encryption_name}
 use Rattle.ciphers.specs.Sealing.{Sealed, Sealing, IsTooLong, cek_len}
 use Rattle.ciphers.proofs.Lemmas.{some_tag}
 use Rattle.keys.specs.Keys.{OctetKey, AreOctetKeys}
 use Rattle.keys.specs.Limits.{limits, are_few}
 use Rattle.objects.specs.Code.Frames.{filled, in_places, first_text, jwe_frame, IsJweFrame}
-use Rattle.objects.specs.Jwe.{built, jwe_text}
+use Rattle.objects.specs.Code.JweMaking.{IsBuilt}
+use Rattle.objects.specs.Jwe.{RecipientParts, Recipient, JweParts, EncryptedObject, recipient_parts_of, parts_of, built, jwe_text}
 use Rattle.objects.specs.Texts.{handed_out}
 use Rattle.objects.specs.Code.Writing.{Written, all_texts}
 use Rattle.objects.specs.Code.JweWriting.{jwe_written}
 use Rattle.objects.proofs.Lemmas.{jwe_refused, is_jwe_frame}
-use Rattle.tokens.specs.Choosing.{EncryptionPlan, read_encryption}
+use Rattle.tokens.specs.Choosing.{EncryptionPlan, is_alone, read_encryption}
 use Rattle.tokens.specs.Decrypting.{additional_authenticated_data}
-use Rattle.tokens.specs.Delivering.{drawn_for_all}
-use Rattle.tokens.specs.Encrypting.{cek_drawn, random_len, after_recipients, cek_by, iv_by, header_by, sealing_by, sealed_by, parts_by, encrypted, text_before, written_of, plan_by, enc_plan}
-use Rattle.tokens.specs.Code.SealedTexts.{IsUnsealed, unsealed, frame_by}
+use Rattle.tokens.specs.Delivering.{drawn_for_all, Delivery}
+use Rattle.tokens.specs.Encrypting.{cek_drawn, random_len, for_recipients, after_recipients, cek_by, iv_by, deliveries_by, header_by, sealing_by, sealed_by, parts_by, encrypted, text_before, written_of, plan_by, enc_plan}
+use Rattle.tokens.specs.Code.SealedTexts.{IsUnsealed, unsealed, made_recipient, unsealed_by, frame_by}
 use Rattle.tokens.proofs.Beginnings.{before_is}
-use Rattle.tokens.proofs.Encrypting.Deliver.{after_long}
+use Rattle.tokens.proofs.Encrypting.Deliver.{after_long, delivery, deliveries_are, drawn_by_each}
 use Rattle.tokens.proofs.Encrypting.Recipients.{OctetLaws, Writes, writes}
 use Rattle.tokens.proofs.Encrypting.Objects.{object_by, built_is, sealed_is}
 use Rattle.tokens.proofs.Encrypting.Texts.{has_text}
 use Rattle.tokens.proofs.Encrypting.Plans.{plan_of_drawn}
 use Rattle.tokens.proofs.Encrypting.SoundLimits.{these_are_sound}
 use Rattle.tokens.proofs.Encrypting.Settle.{Settles, settles, stands_alone}
+
+-- ---- the object without a ciphertext and a tag
+
+-- the recipient of a delivery
+abbrev made_of : EncryptionPlan → Delivery → Recipient
+made_of e = made_recipient e.given (is_alone e.recipient_keys) (encryption_name e.encryption)
+
+-- Its members are those that it is built of.
+pub unsealed_parts : (e : EncryptionPlan) (random : List ℕ) → parts_of (unsealed_by e random) ≡ parts_by e random unsealed
+unsealed_parts e random =
+    let parts : JweParts = parts_by e random unsealed in
+    ap (λ (rs : List RecipientParts). record parts { recipients = rs }) (map-map recipient_parts_of (made_of e) (deliveries_by e random))
+
+-- It is the object that is made of these members.
+unsealed_is : (e : EncryptionPlan) (random : List ℕ) → object_by e random unsealed ≡ unsealed_by e random
+unsealed_is e random =
+    let o : EncryptedObject = unsealed_by e random in
+    let cek : List ℕ = cek_by e random in
+    ap (λ (rs : List Recipient). record o { recipients = rs })
+    (sym (ap (map (made_of e)) (deliveries_are e cek e.recipient_keys (for_recipients e random))
+    ∙ map-map (made_of e) (delivery e cek) (drawn_by_each e random)))
+
+-- If it is built of its members, its frame is the one that is settled.
+pub unsealed_frame : (compact detach : Bool) (e : EncryptionPlan) (random : List ℕ) → IsBuilt limits (unsealed_by e random)
+    → frame_by limits compact detach e random ≡ jwe_frame compact detach (unsealed_by e random)
+unsealed_frame compact detach e random made =
+    ap (λ r. r >>= jwe_frame compact detach) (ap (built limits) (sym (unsealed_parts e random)) ∙ made)
+
+-- ---- what is known of its frame
 
 -- keys and a template settle an encryption, and exactly as many octets are drawn as it needs
 module _ (compact : Bool) (keys : List OctetKey) (template : List ℕ) (e : EncryptionPlan) (random : List ℕ)
@@ -42,6 +74,10 @@ module _ (compact : Bool) (keys : List OctetKey) (template : List ℕ) (e : Encr
 
   w : Writes e random
   w = writes laws keys e random by key_octets random_octets long
+
+  -- The object without a ciphertext is the one that is built of its members.
+  pub is_built : IsBuilt limits (unsealed_by e random)
+  is_built = ap (built limits) (unsealed_parts e random) ∙ built_is limits refl keys e random unsealed by w few ∙ ap Ok (unsealed_is e random)
 
   -- The object without a ciphertext has a frame.
   pub has_frame : (detach : Bool) → (texts : List (List ℕ)) × (frame_by limits compact detach e random ≡ Ok texts)

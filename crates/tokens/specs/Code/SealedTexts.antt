@@ -1,20 +1,24 @@
 -- What is written of a content that is sealed as it is read: its ciphertext, and the tag at its end.
-use Rattle.std.specs.Prelude.{◌≡◌, ℕ, Bool, false, List, [], ◌∷◌, length, if◌then◌else◌, Option, Some, None, Result, Ok}
+use Rattle.std.specs.Prelude.{◌≡◌, ℕ, Bool, false, List, [], ◌∷◌, length, map, if◌then◌else◌, Option, Some, None, Result, Ok}
 use Rattle.std.proofs.Common.{zero, suc, refl, ap, ◌∙◌, arith}
 use Rattle.std.proofs.lemmas.List.{nil_from_length}
 use Rattle.octets.specs.declared.refusal.Refusal.{Refusal}
+use Rattle.octets.specs.Base64url.{base64url}
 use Rattle.octets.specs.Code.Streams.{part_group}
 use Rattle.octets.specs.Octets.{IsOctets}
 use Rattle.octets.specs.Outcomes.{◌>>=◌}
 use Rattle.octets.specs.Plan.{OutputTexts, Plan}
+use Rattle.ciphers.specs.Algorithms.{management_name, encryption_name}
 use Rattle.ciphers.specs.Sealing.{Sealed, Sealing, IsTooLong}
 use Rattle.ciphers.specs.Code.Views.{KeepsPace}
 use Rattle.keys.specs.Limits.{Limits, limits}
 use Rattle.objects.specs.Code.Frames.{filled, in_places, first_text, jwe_frame}
-use Rattle.objects.specs.Jwe.{built}
+use Rattle.objects.specs.Jwe.{Recipient, EncryptedObject, built}
 use Rattle.objects.specs.Texts.{handed_out}
-use Rattle.tokens.specs.Choosing.{EncryptionPlan}
-use Rattle.tokens.specs.Encrypting.{sealing_by, sealed_by, parts_by, text_before, within_longest, plan_by}
+use Rattle.tokens.specs.Choosing.{Given, EncryptionPlan, is_alone}
+use Rattle.tokens.specs.Delivering.{Delivery}
+use Rattle.tokens.specs.Encrypting.{iv_by, deliveries_by, protected_header, per_recipient_header, sealing_by, sealed_by, parts_by, text_before, within_longest, plan_by}
+use Rattle.tokens.specs.Template.{header_text}
 
 -- ---- the ciphertext
 
@@ -52,6 +56,36 @@ one_value is = ap length is
 
 abbrev pub unsealed : Sealed
 unsealed = record { ciphertext = []; tag = [] }
+
+-- the recipient of a delivery, by whether it is the only one, with the name of its content encryption
+abbrev pub made_recipient : Given → Bool → List ℕ → Delivery → Recipient
+made_recipient given alone enc d = record {
+  header = per_recipient_header given alone d;
+  encrypted_key = d.encrypted_key;
+  alg = management_name d.alg;
+  enc = enc;
+  management = d.management;
+}
+
+-- the object of deliveries and an initialization vector
+abbrev pub unsealed_object : EncryptionPlan → List Delivery → List ℕ → EncryptedObject
+unsealed_object e deliveries iv =
+    let alone : Bool = is_alone e.recipient_keys in
+    let header = protected_header e.given alone deliveries e.protected in
+    record {
+      protected = base64url (header_text header);
+      protected_members = header;
+      unprotected = e.unprotected;
+      iv = iv;
+      aad = e.aad;
+      ciphertext = [];
+      tag = [];
+      recipients = map (made_recipient e.given alone (encryption_name e.encryption)) deliveries;
+    }
+
+-- the object of what was drawn
+abbrev pub unsealed_by : EncryptionPlan → List ℕ → EncryptedObject
+unsealed_by e random = unsealed_object e (deliveries_by e random) (iv_by e random)
 
 -- the texts around its ciphertext and its tag
 abbrev pub frame_by : Limits → Bool → Bool → EncryptionPlan → List ℕ → Result (List (List ℕ)) Refusal

@@ -6,7 +6,7 @@ use Rattle.prf.specs.HashFunction.{HashFunction}
 use Rattle.prf.specs.Sha2.{Sha256, Sha384, Sha512}
 use Rattle.prf.specs.declared.hmac.Hmac.{Hmac}
 use Rattle.tokens.specs.declared.signing_input.HmacInput.{HmacInput}
-use Rattle.tokens.specs.declared.signing_input.HmacInput.TheVariants.{Hs256, Hs384, Hs512}
+use Rattle.tokens.specs.declared.signing_input.HmacInput.TheVariants.{BySha256, BySha384, BySha512}
 use Rattle.octets.specs.declared.refusal.Refusal.{Refusal}
 use Rattle.keys.specs.declared.algorithm.SignatureAlg.{SignatureAlg}
 use Rattle.octets.specs.Base64url.{base64url, whole_groups}
@@ -23,9 +23,9 @@ use Rattle.tokens.specs.Signing.{Signer, Signing, protected_by, plan_by}
 
 -- a statement on the HMAC of this variant
 abbrev pub on_hmac_input : HmacInput → (Hmac Sha256 → Type 0) → (Hmac Sha384 → Type 0) → (Hmac Sha512 → Type 0) → Type 0
-on_hmac_input (Hs256 mac) a b c = a mac
-on_hmac_input (Hs384 mac) a b c = b mac
-on_hmac_input (Hs512 mac) a b c = c mac
+on_hmac_input (BySha256 mac) a b c = a mac
+on_hmac_input (BySha384 mac) a b c = b mac
+on_hmac_input (BySha512 mac) a b c = c mac
 
 -- what a signing input starts with: the algorithm and the key of the HMAC, and the text of the protected header
 pub record InputStart : Type 0 where

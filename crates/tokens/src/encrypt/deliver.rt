@@ -20,10 +20,19 @@ use octets::Refusal;
 use std::alloc::Global;
 
 /// The length of a salt input in octets (RFC 7518 section 4.8.1.1).
-pub(crate) const SALT_LEN: usize = 16;
+const SALT_LEN: usize = 16;
 
 /// The length of the initialization vector of AES-GCM key wrap in octets (RFC 7518 section 4.7.1.1).
 const KEY_IV_LEN: usize = 12;
+
+/// The most octets that are drawn for a recipient: a salt input is longer than an initialization vector.
+pub(crate) const MOST_FOR_RECIPIENT: usize = SALT_LEN;
+
+/// The octets of the longest encrypted key: a content encryption key of 64, and 8 that AES key wrap adds (RFC 3394).
+const MOST_ENCRYPTED_KEY: usize = 72;
+
+/// The octets of the tag of AES-GCM key wrap (RFC 7518 section 4.7.1.2).
+const KEY_TAG_LEN: usize = 16;
 
 /// An encrypted key, and how it delivers the content encryption key.
 #[derive(Drop)]
@@ -37,7 +46,7 @@ pub(crate) struct Delivery {
 pub(crate) fn drawn_for_all(recipient_keys: &[RecipientKey<'_>]) -> usize
     requires { length recipient_keys.now ≤ limits.keys }
     ensures count { result ≡ drawn_for_all (map recipient_key_view recipient_keys.now) }
-    ensures bound { result ≤ SALT_LEN * length recipient_keys.now }
+    ensures bound { result ≤ MOST_FOR_RECIPIENT * length recipient_keys.now }
 {
     let mut count = 0;
     for recipient_key in recipient_keys {
@@ -49,7 +58,7 @@ pub(crate) fn drawn_for_all(recipient_keys: &[RecipientKey<'_>]) -> usize
 /// How many octets are drawn for a recipient.
 fn drawn_for(recipient_key: &RecipientKey<'_>) -> usize
     ensures count { result ≡ drawn_for (recipient_key_view recipient_key.now) }
-    ensures bound { result ≤ SALT_LEN }
+    ensures bound { result ≤ MOST_FOR_RECIPIENT }
 {
     drawn_by(recipient_key.management)
 }
@@ -57,7 +66,7 @@ fn drawn_for(recipient_key: &RecipientKey<'_>) -> usize
 /// How many octets are drawn for an algorithm: those of a salt input for PBES2, or of an initialization vector for AES-GCM key wrap.
 fn drawn_by(alg: KeyAlg) -> usize
     ensures count { result ≡ drawn_by alg }
-    ensures bound { result ≤ SALT_LEN }
+    ensures bound { result ≤ MOST_FOR_RECIPIENT }
 {
     match alg.mode() {
         KeyManagementMode::Direct | KeyManagementMode::KeyWrap => 0,
@@ -118,8 +127,8 @@ fn deliver(
         p2c: encryption.p2c,
         ..NO_PARAMETERS
     };
-    let mut buf = [0; 72];
-    let mut tag = [0; 16];
+    let mut buf = [0; MOST_ENCRYPTED_KEY];
+    let mut tag = [0; KEY_TAG_LEN];
     let (len, tag_len) = alg.wrap_cek(key.octets(), parameters, cek, &mut buf, &mut tag);
     Ok(Delivery {
         alg,

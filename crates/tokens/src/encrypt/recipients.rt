@@ -1,20 +1,21 @@
 //! What is written of the deliveries of a content encryption key: the header parameters of key management (RFC 7518 section 4), and the
 //! recipients of an object (RFC 7516 section 7.2.1).
-ghost use Rattle.std.specs.Prelude.{◌≡◌, false, map, IfOk, IfErr};
+ghost use Rattle.std.specs.Prelude.{◌≡◌, ℕ, List, false, map, IfOk, IfErr};
 ghost use Rattle.serde_json.specs.Data.{string, put};
 ghost use Rattle.serde_json.specs.View.{members_view};
 ghost use Rattle.serde_json.specs.Written.{members_have_float};
 ghost use Rattle.octets.specs.Base64url.{base64url};
 ghost use Rattle.objects.specs.Code.KeyManagementView.{management_view};
-ghost use Rattle.objects.specs.Code.Views.{recipient_parts_view};
+ghost use Rattle.objects.specs.Code.Views.{made_recipient_view};
 ghost use Rattle.tokens.specs.Choosing.{with_p2c};
-ghost use Rattle.tokens.specs.Encrypting.{with_management, with_parameters, protected_header, per_recipient_header, recipient_parts_by};
+ghost use Rattle.tokens.specs.Encrypting.{with_management, with_parameters, protected_header, per_recipient_header};
+ghost use Rattle.tokens.specs.Code.SealedTexts.{made_recipient};
 ghost use Rattle.tokens.specs.Code.Views.{given_view, delivery_view};
 
 use crate::encrypt::deliver::Delivery;
 use crate::encrypt::plan::Given;
 use crate::headers::with_name;
-use objects::{KeyManagement, RecipientParts};
+use objects::{KeyManagement, MadeRecipient, RecipientParts};
 use octets::{Refusal, b64_encode};
 use serde_json::{Map, Value};
 use std::alloc::{AllocError, Global};
@@ -45,9 +46,9 @@ pub(crate) fn recipients(
     given: Given,
     alone: bool,
     deliveries: Vec<Delivery>,
-) -> Result<Vec<RecipientParts>, Refusal>
-    ensures recipients { IfOk result (λ list. map recipient_parts_view list.items
-        ≡ map (recipient_parts_by (given_view given) alone) (map delivery_view deliveries.items)) }
+) -> Result<Vec<MadeRecipient>, Refusal>
+    ensures recipients { IfOk result (λ list. (enc : List ℕ) → map (made_recipient_view enc) list.items
+        ≡ map (made_recipient (given_view given) alone enc) (map delivery_view deliveries.items)) }
     ensures memory { IfErr result (λ e. e ≡ Refusal.Memory) }
 {
     let mut list = Vec::new(alloc);
@@ -63,15 +64,24 @@ fn recipient(
     given: Given,
     alone: bool,
     delivery: Delivery,
-) -> Result<RecipientParts, Refusal>
-    ensures recipient { IfOk result (λ made. recipient_parts_view made ≡ recipient_parts_by (given_view given) alone (delivery_view delivery)) }
+) -> Result<MadeRecipient, Refusal>
+    ensures recipient { IfOk result (λ made. (enc : List ℕ)
+        → made_recipient_view enc made ≡ made_recipient (given_view given) alone enc (delivery_view delivery)) }
     ensures memory { IfErr result (λ e. e ≡ Refusal.Memory) }
 {
     let header = per_recipient_header(alloc, given, alone, &delivery)?;
-    let Delivery { encrypted_key, .. } = delivery;
-    Ok(RecipientParts {
-        header,
+    let Delivery {
+        alg,
+        management,
         encrypted_key,
+    } = delivery;
+    Ok(MadeRecipient {
+        parts: RecipientParts {
+            header,
+            encrypted_key,
+        },
+        alg,
+        management,
     })
 }
 

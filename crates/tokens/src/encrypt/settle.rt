@@ -8,7 +8,7 @@ ghost use Rattle.keys.specs.Limits.{limits};
 ghost use Rattle.keys.specs.Code.Views.{key_view};
 ghost use Rattle.objects.specs.Texts.{each};
 ghost use Rattle.objects.specs.Code.Views.{part_view};
-ghost use Rattle.tokens.specs.Choosing.{read_encryption, settle_encryption as settle_encryption_with_keys, recipient_key_by as recipient_key_by_key, direct_key_is_alone, is_direct, encryption_for, chosen_management, management_of_key, management_by_name, management_by_length, chosen_encryption, encryption_in, encryption_by_wrap, encryption_by_length, may_encrypt, compact_has_room, password_count, chosen_p2c, p2c_may_be_written, is_given, with_name};
+ghost use Rattle.tokens.specs.Choosing.{read_encryption, settle_encryption as settle_encryption_with_keys, recipient_key_by as recipient_key_by_key, direct_key_is_alone, is_direct, encryption_for, chosen_management, management_of_key, management_by_name, management_by_length, chosen_encryption, encryption_in, may_encrypt, compact_has_room, password_count, chosen_p2c, p2c_may_be_written, is_given, with_name};
 ghost use Rattle.tokens.specs.Code.Views.{recipient_key_view, encryption_plan_view, encryption_template_view};
 
 use crate::encrypt::plan::{EncryptionPlan, Given};
@@ -230,22 +230,10 @@ fn encryption_by_management(management: KeyAlg, key: &Key) -> Option<ContentAlg>
     match management.mode() {
         KeyManagementMode::Direct => match encryption_by_name(key.alg()) {
             Some(alg) => Some(alg),
-            None => encryption_by_length(key.octets().len()),
+            None => ContentAlg::cbc_with_cek_len(key.octets().len()),
         },
         KeyManagementMode::KeyWrap | KeyManagementMode::Password | KeyManagementMode::GcmKeyWrap =>
-            encryption_by_wrap(management.kek_len()),
-    }
-}
-
-/// The CBC algorithm whose AES key is as long as the key of the wrap, of `len` octets.
-fn encryption_by_wrap(len: usize) -> Option<ContentAlg>
-    ensures { result ≡ encryption_by_wrap len }
-{
-    match len {
-        16 => Some(ContentAlg::A128CbcHs256),
-        24 => Some(ContentAlg::A192CbcHs384),
-        32 => Some(ContentAlg::A256CbcHs512),
-        _ => None,
+            ContentAlg::cbc_with_cek_len(2 * management.kek_len()),
     }
 }
 
@@ -254,18 +242,6 @@ fn encryption_by_name(name: Option<&str>) -> Option<ContentAlg>
     ensures { result ≡ option_and_then encryption_alg_of (option_map (λ n. n.now) name.entry) }
 {
     ContentAlg::named(name?)
-}
-
-/// The algorithm whose key has `len` octets, for a key that is used directly.
-fn encryption_by_length(len: usize) -> Option<ContentAlg>
-    ensures { result ≡ encryption_by_length len }
-{
-    match len {
-        32 => Some(ContentAlg::A128CbcHs256),
-        48 => Some(ContentAlg::A192CbcHs384),
-        64 => Some(ContentAlg::A256CbcHs512),
-        _ => None,
-    }
 }
 
 /// Whether each key may encrypt and fits.

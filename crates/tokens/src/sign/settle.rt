@@ -7,7 +7,7 @@ ghost use Rattle.octets.specs.declared.refusal.Refusal.{Refusal};
 ghost use Rattle.keys.specs.Limits.{limits};
 ghost use Rattle.keys.specs.Code.Views.{key_view};
 ghost use Rattle.objects.specs.Texts.{each};
-ghost use Rattle.tokens.specs.Signing.{read_signing, settle_signing as settle_signing_with_keys, signer_by as signer_by_key, may_sign as may_sign_key, chosen_alg, alg_of_key, alg_by_length};
+ghost use Rattle.tokens.specs.Signing.{read_signing, settle_signing as settle_signing_with_keys, signer_by as signer_by_key, may_sign as may_sign_key, chosen_alg, alg_of_key};
 ghost use Rattle.tokens.specs.Template.{is_shallow as is_shallow_header};
 ghost use Rattle.tokens.specs.Code.Views.{signer_view, signing_view, template_view};
 
@@ -134,22 +134,7 @@ fn alg_of_key(name: Option<&str>, len: usize) -> Result<SignatureAlg, Refusal>
     ensures { Agrees (λ alg. alg) result (alg_of_key (option_map (λ n. n.now) name.entry) len) }
 {
     match name {
-        None => alg_by_length(len).ok_or(Refusal::NoAlgorithm),
+        None => SignatureAlg::longest_for(len).ok_or(Refusal::NoAlgorithm),
         Some(name) => SignatureAlg::named(name).ok_or(Refusal::KeyDoesNotFit),
-    }
-}
-
-/// The algorithm with the longest hash that a key of `len` octets is long enough for.
-fn alg_by_length(len: usize) -> Option<SignatureAlg>
-    ensures { result ≡ alg_by_length len }
-{
-    if len >= 64 {
-        Some(SignatureAlg::Hs512)
-    } else if len >= 48 {
-        Some(SignatureAlg::Hs384)
-    } else if len >= 32 {
-        Some(SignatureAlg::Hs256)
-    } else {
-        None
     }
 }

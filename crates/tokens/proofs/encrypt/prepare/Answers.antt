@@ -8,21 +8,23 @@ use Rattle.octets.proofs.Lemmas.{appended-append}
 use Rattle.tokens.specs.Encrypting.{random_len}
 use Rattle.tokens.specs.Code.Views.{encryption_plan_view, recipient_key_view}
 use Rattle.tokens.proofs.Encrypting.Recipients.{OctetLaws}
-use Rattle.tokens.proofs.Encrypting.Frames.{has_frame, is_unsealed}
+use Rattle.tokens.proofs.Encrypting.Frames.{is_built, has_frame, is_unsealed}
 use Rattle.tokens.proofs.Encrypting.Sealing.{if_ok_all}
 use Rattle.tokens.proofs.encrypt.prepare.Goals as goal
 
-pub begin_sealing-requires-clause-made : goal.begin_sealing-requires-clause-made
-begin_sealing-requires-clause-made g c =
+pub begin_sealing-requires : goal.begin_sealing-requires
+begin_sealing-requires g c =
     let e = encryption_plan_view c.in_ok-encryption.encryption in
     let items = c.in_ok-encryption.encryption.recipient_keys.items in
     let few : are_few limits (length e.recipient_keys) ≡ true =
     le-leb (length e.recipient_keys) limits.recipients (omega (arith, length-map items recipient_key_view, c.in_ok-encryption.encryption.few)) in
     let long : length c.draw.new.out ≡ random_len e = search rules in
     let laws : OctetLaws = record { opened = c.what_is_opened_is_octets.ensures; delivering = c.what_delivers_is_octets.ensures } in
+    let built = is_built c.args.compact c.args.keys.now c.args.template.now e c.draw.new.out c.in_ok-encryption.ensures few laws c.are_octet_keys.ensures.octets
+    c.are_octets.ensures long in
     let framed = has_frame c.args.compact c.args.keys.now c.args.template.now e c.draw.new.out c.in_ok-encryption.ensures few laws c.are_octet_keys.ensures.octets
     c.are_octets.ensures long c.args.detach in
-    rw framed.1 refl
+    record { long = long; built = built; made = rw framed.1 refl }
 
 pub returns-clause-unsealed : goal.returns-clause-unsealed
 returns-clause-unsealed g c octets may =

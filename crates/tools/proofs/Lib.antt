@@ -1,0 +1,3 @@
+pub mod Verified
+pub mod Headline
+pub mod Numbers
