@@ -24,12 +24,13 @@ def with_below(names):
 
 
 def copied(names, room):
-    """Copies these crates and those below them into a folder, with their crates.txt."""
+    """Copies these crates and those below them into a folder, with their crates.txt. What the checks of those below keep stays behind."""
     there = with_below(names)
     with open(f"{room}/crates.txt", "w", encoding="utf-8") as file:
         file.writelines(row for name, row in rows().items() if name in there)
     for it in there:
-        shutil.copytree(f"{ROOT}/crates/{it}", f"{room}/crates/{it}", ignore=shutil.ignore_patterns("must-fail", "edits"))
+        left = ["must-fail", "edits"] + ["incremental"] * (it not in names)
+        shutil.copytree(f"{ROOT}/crates/{it}", f"{room}/crates/{it}", ignore=shutil.ignore_patterns(*left))
 
 
 def made(name, uses, room, kind=""):
