@@ -22,6 +22,8 @@ uint32_t lakhdzeva_core_verify(const uint8_t *keys, size_t keys_length, const ui
     size_t room, size_t *length);
 uint32_t lakhdzeva_core_verify_detached(const uint8_t *keys, size_t keys_length, const uint8_t *object, size_t object_length, bool all,
     const uint8_t *payload, size_t payload_length);
+uint32_t lakhdzeva_core_verify_signer(const uint8_t *keys, size_t keys_length, const uint8_t *object, size_t object_length, uint8_t *payload,
+    size_t room, size_t *length, size_t *signer);
 uint32_t lakhdzeva_core_verify_all(const uint8_t *keys, size_t keys_length, size_t signers, const uint8_t *object, size_t object_length,
     uint8_t *payload, size_t room, size_t *length);
 uint32_t lakhdzeva_core_verify_all_detached(const uint8_t *keys, size_t keys_length, size_t signers, const uint8_t *object, size_t object_length,
@@ -260,6 +262,13 @@ status lakhdzeva_verify_detached(const void *keys, size_t keys_length, const voi
     if (!ARE_SOUND(0, {keys, keys_length}, {object, object_length}, {payload, payload_length}) || !are_among(flags, LAKHDZEVA_ALL))
         return LAKHDZEVA_USAGE;
     return wiped(lakhdzeva_core_verify_detached(TEXT(keys), TEXT(object), flags != 0, TEXT(payload)), VERIFY_DETACHED);
+}
+
+status lakhdzeva_verify_signer(const void *keys, size_t keys_length, const void *object, size_t object_length, void *payload, size_t room,
+    size_t *length, size_t *signer) {
+    if (!ARE_SOUND(3, {payload, room}, {length, sizeof *length}, {signer, sizeof *signer}, {keys, keys_length}, {object, object_length}))
+        return LAKHDZEVA_USAGE;
+    return wiped(lakhdzeva_core_verify_signer(TEXT(keys), TEXT(object), PLACE(payload), room, length, signer), VERIFY);
 }
 
 status lakhdzeva_verify_all(const void *keys, size_t keys_length, size_t signers, const void *object, size_t object_length, void *payload,

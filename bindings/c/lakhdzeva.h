@@ -166,6 +166,15 @@ enum lakhdzeva_status lakhdzeva_verify(const void *keys, size_t keys_length, con
 enum lakhdzeva_status lakhdzeva_verify_detached(const void *keys, size_t keys_length, const void *object, size_t object_length, unsigned flags,
     const void *payload, size_t payload_length) LAKHDZEVA_STATUS_;
 
+/* Verifies the object, and gives its payload and which key verified it: the place in the set, from 0, of the first key that made a signature,
+   or 0 for a key that is alone. It is for a service whose keys belong to different parties. A bad key is refused as by lakhdzeva_sign, so the
+   place counts every member of `keys`. Whatever is refused, the place of the signer is 0.
+   - Nobody but the owner of a key may know it: whoever has the octets of a key can sign as its owner.
+   - An object in JSON form can have signatures of several keys. This names the first key of the set that made one, and no other.
+   The rest is as for lakhdzeva_verify. */
+enum lakhdzeva_status lakhdzeva_verify_signer(const void *keys, size_t keys_length, const void *object, size_t object_length, void *payload,
+    size_t room, size_t *length, size_t *signer) LAKHDZEVA_STATUS_;
+
 /* Verifies that each key of the set signed the object, and gives its payload. The text has exactly `signers` keys.
    - Refusals, in this order: a bad key is refused as by lakhdzeva_sign. Another number of keys is 9 LAKHDZEVA_KEY, and so are two keys that sign
      alike: HMAC fills a short key with zeros and hashes a long one (RFC 2104), so keys that differ can make the same signatures. Then come the

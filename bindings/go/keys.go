@@ -143,6 +143,11 @@ func (keys *Keys) Verify(object []byte) ([]byte, error) {
 	return Verify(keys.text, object, One)
 }
 
+// VerifySigner is the function VerifySigner with these keys.
+func (keys *Keys) VerifySigner(object []byte) (payload []byte, signer int, err error) {
+	return VerifySigner(keys.text, object)
+}
+
 // VerifyDetached is the function VerifyDetached with these keys, one of which must have signed the object.
 func (keys *Keys) VerifyDetached(object, payload []byte) error {
 	return VerifyDetached(keys.text, object, One, payload)

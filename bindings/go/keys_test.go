@@ -166,6 +166,11 @@ func TestEachMethodOfKeys(t *testing.T) {
 	expect(t, object, err, signedByOther)
 	got, err := keys.VerifyAll(1, object)
 	expect(t, got, err, "hello")
+	got, signer, err := keys.VerifySigner(object)
+	expect(t, got, err, "hello")
+	if signer != 0 {
+		t.Errorf("got the signer %d", signer)
+	}
 	object, err = keys.SignDetached(nil, Compact, []byte("hello"))
 	expect(t, object, err, strings.Replace(signedByOther, "aGVsbG8", "", 1))
 	if err := keys.VerifyDetached(object, []byte("hello")); err != nil {
@@ -186,6 +191,21 @@ func TestEachMethodOfKeys(t *testing.T) {
 	}
 	got, err = wrap.DecryptWithIterations(object, ciphertext, 0)
 	expect(t, got, err, "hello")
+}
+
+func TestTheSignerIsTheFirstKeyThatSigned(t *testing.T) {
+	for place, text := range []string{hs256Key + "," + rfc7515Key, rfc7515Key + "," + hs256Key} {
+		got, signer, err := VerifySigner([]byte(`{"keys":[`+text+`]}`), []byte(signedByOther))
+		expect(t, got, err, "hello")
+		if signer != place {
+			t.Errorf("got the signer %d, want %d", signer, place)
+		}
+	}
+	for text, want := range map[string]error{`{"keys":[{},` + hs256Key + `]}`: ErrKey, rfc7516Key: ErrKeyDoesNotFit, rfc7515Key: ErrNotOpened} {
+		if payload, signer, err := VerifySigner([]byte(text), []byte(signedByOther)); payload != nil || signer != 0 || !errors.Is(err, want) {
+			t.Errorf("%s: got %q, %d and %v", text, payload, signer, err)
+		}
+	}
 }
 
 func TestNothingSecretIsPrinted(t *testing.T) {

@@ -279,6 +279,23 @@ func VerifyDetached(keys, object []byte, signers Signers, payload []byte) error 
 		unsafe.Pointer(&some(payload)[0]), size(payload))))
 }
 
+// VerifySigner verifies the object, and returns its payload and the place in the set, from 0, of the first key that made a signature. It is for
+// a service whose keys belong to different parties. A bad key is refused as by Sign, so the place counts every key of the set.
+//   - Nobody but the owner of a key may know it: whoever has the octets of a key can sign as its owner.
+//   - An object in JSON form can have signatures of several keys. This names the first key of the set that made one, and no other.
+//
+// The rest is as for Verify.
+func VerifySigner(keys, object []byte) (payload []byte, signer int, err error) {
+	var place C.size_t
+	payload, err = answer(C.lakhdzeva_verify_room(size(object)), func(payload []byte, length *C.size_t) uint32 {
+		return uint32(C.lakhdzeva_verify_signer(
+			unsafe.Pointer(&some(keys)[0]), size(keys),
+			unsafe.Pointer(&some(object)[0]), size(object),
+			unsafe.Pointer(&some(payload)[0]), size(payload), length, &place))
+	})
+	return payload, int(place), err
+}
+
 // VerifyAll verifies that each key of the set signed the object, and returns its payload. The text has exactly so many keys as there are
 // signers. It is for rules about people, such as "Ann and Bob must both sign". A bad key is refused as by Sign. Another number of keys is
 // refused with ErrKey, and so are two keys that sign alike: HMAC fills a short key with zeros and hashes a long one (RFC 2104), so keys that

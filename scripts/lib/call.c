@@ -41,6 +41,7 @@ static uint32_t call(const char *name) {
     IS(lakhdzeva_sign, T(0), T(1), number, T(2), P(0));
     IS(lakhdzeva_verify, T(0), T(1), number, P(0));
     IS(lakhdzeva_verify_detached, T(0), T(1), number, T(2));
+    IS(lakhdzeva_verify_signer, T(0), T(1), P(0), &lengths[1]);
     IS(lakhdzeva_verify_all, T(0), number, T(1), P(0));
     IS(lakhdzeva_verify_all_detached, T(0), number, T(1), T(2));
     IS(lakhdzeva_format_signed, T(0), T(1), number, P(0), P(1));

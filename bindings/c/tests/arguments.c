@@ -73,6 +73,10 @@ uint32_t lakhdzeva_core_verify(T keys, size_t keys_length, T object, size_t obje
 uint32_t lakhdzeva_core_verify_detached(T keys, size_t keys_length, T object, size_t object_length, bool all, T payload, size_t payload_length) {
     return TAKES(keys), TAKES(object), TAKES(payload), takes_flags(0, 0, 0, all, 0), answer;
 }
+uint32_t lakhdzeva_core_verify_signer(T keys, size_t keys_length, T object, size_t object_length, P payload, size_t room, size_t *length,
+    size_t *signer) {
+    return TAKES(keys), TAKES(object), takes(payload, 0), *length = room, *signer = 5, answer;
+}
 uint32_t lakhdzeva_core_verify_all(T keys, size_t keys_length, size_t signers, T object, size_t object_length, P payload, size_t room,
     size_t *length) {
     return TAKES(keys), TAKES(object), takes_flags(0, 0, 0, 0, signers), takes(payload, 0), *length = room, answer;
@@ -157,6 +161,8 @@ static void try_null(void) {
     check("and one key", !is_all);
     gets("with each key", lakhdzeva_verify_detached(NULL, 0, NULL, 0, LAKHDZEVA_ALL, NULL, 0), 13);
     check("with all", is_all);
+    gets("the signer with NULL", lakhdzeva_verify_signer(NULL, 0, NULL, 0, NULL, 0, &a, &b), 13);
+    check("and its place", b == 5);
     gets("signers with NULL", lakhdzeva_verify_all(NULL, 0, 7, NULL, 0, NULL, 0, &a), 13);
     check("their number", got_number == 7);
     gets("signers of NULL", lakhdzeva_verify_all_detached(NULL, 0, 8, NULL, 0, NULL, 0), 13);

@@ -194,6 +194,7 @@ static uint32_t judge_keys(const struct lent *lent) { return lakhdzeva_judge_key
 static uint32_t sign(const struct lent *lent) { return lakhdzeva_sign(LENT(1), LENT(2), asked, LENT(3), LENT(0), to_count[0]); }
 static uint32_t verify(const struct lent *lent) { return lakhdzeva_verify(LENT(1), LENT(2), asked, LENT(0), to_count[0]); }
 static uint32_t verify_detached(const struct lent *lent) { return lakhdzeva_verify_detached(LENT(0), LENT(1), asked, LENT(2)); }
+static uint32_t verify_signer(const struct lent *lent) { return lakhdzeva_verify_signer(LENT(1), LENT(2), LENT(0), to_count[0], to_count[1]); }
 static uint32_t verify_all(const struct lent *lent) { return lakhdzeva_verify_all(LENT(1), 1, LENT(2), LENT(0), to_count[0]); }
 static uint32_t verify_all_detached(const struct lent *lent) { return lakhdzeva_verify_all_detached(LENT(0), 1, LENT(1), LENT(2)); }
 static uint32_t decrypt(const struct lent *lent) { return lakhdzeva_decrypt(LENT(1), LENT(2), LENT(3), UINT64_MAX, LENT(0), to_count[0]); }
@@ -219,7 +220,7 @@ static const struct {
 } CALLS[] = {
     {"generate", generate, 1, 2, NO_FLAGS}, {"generate_with_random", generate_with_random, 1, 3, NO_FLAGS},
     {"thumbprints", thumbprints, 1, 2, NO_FLAGS}, {"judge_keys", judge_keys, 1, 2, NO_FLAGS}, {"sign", sign, 1, 4, FORMS}, {"verify", verify, 1, 3, LAKHDZEVA_ALL},
-    {"verify_detached", verify_detached, 0, 3, LAKHDZEVA_ALL}, {"verify_all", verify_all, 1, 3, NO_FLAGS},
+    {"verify_detached", verify_detached, 0, 3, LAKHDZEVA_ALL}, {"verify_signer", verify_signer, 1, 3, NO_FLAGS}, {"verify_all", verify_all, 1, 3, NO_FLAGS},
     {"verify_all_detached", verify_all_detached, 0, 3, NO_FLAGS}, {"decrypt", decrypt, 1, 4, NO_FLAGS}, {"encrypt", encrypt_by_system, 2, 5, FORMS},
     {"encrypt_with_random", encrypt_with_random, 2, 6, FORMS}, {"format_signed", format_signed, 2, 4, FORMS},
     {"format_encrypted", format_encrypted, 2, 4, FORMS},
@@ -244,7 +245,8 @@ static void lie(size_t at, const char *what, size_t part, const void *start, siz
 
 static void try_each_argument(void) {
     for (size_t at = 0; at < sizeof CALLS / sizeof *CALLS; at++) {
-        size_t places = CALLS[at].places, all = CALLS[at].all;
+        /* The place of the signer is a number without octets. */
+        size_t places = CALLS[at].places, all = CALLS[at].all, said = places + (CALLS[at].call == verify_signer);
         to_count[0] = &counts[0], to_count[1] = &counts[1];
         asked = places == 2 ? LAKHDZEVA_DETACH : 0;
         lie(at, "parts that are sound", MOST_LENT, NULL, 0, false);
@@ -255,8 +257,8 @@ static void try_each_argument(void) {
                 lie(at, "no pointer and a long length", part, NULL, lengths[one], true);
                 lie(at, "a length of 2^63 or more", part, area + (part + 1) * APART, lengths[one], true);
             }
+            for (size_t one = 0; one < said; one++) lie(at, "a part on a length", part, (char *)&counts[one] + sizeof *counts - 1, EACH, true);
             for (size_t place_at = 0; place_at < places; place_at++) {
-                lie(at, "a part on a length", part, (char *)&counts[place_at] + sizeof *counts - 1, EACH, true);
                 if (part == place_at) continue;
                 char *start = area + (place_at + 1) * APART;
                 lie(at, "a part that begins in a place", part, start + EACH - 1, EACH, true);
@@ -267,12 +269,12 @@ static void try_each_argument(void) {
                 lie(at, "a part before a place", part, start - EACH, EACH, false);
             }
         }
-        for (size_t place_at = 0; place_at < places; place_at++) {
-            to_count[place_at] = NULL;
+        for (size_t one = 0; one < said; one++) {
+            to_count[one] = NULL;
             lie(at, "a place without a length", MOST_LENT, NULL, 0, true);
-            to_count[place_at] = &counts[place_at];
+            to_count[one] = &counts[one];
         }
-        if (places == 2) {
+        if (said == 2) {
             to_count[1] = &counts[0];
             lie(at, "both lengths are one", MOST_LENT, NULL, 0, true);
             to_count[1] = &counts[1];
@@ -387,6 +389,39 @@ static void try_signers(void) {
     check("one signer with the payload", lakhdzeva_verify_all_detached(keys, sizeof SIGNING - 1, 1, apart, apart_length, claims, sizeof CLAIMS - 1) == 0);
     check("and not with another", lakhdzeva_verify_all_detached(keys, sizeof SIGNING - 1, 1, apart, apart_length, claims, 5) == LAKHDZEVA_NOT_OPENED);
     check("nor with one in the object", lakhdzeva_verify_all_detached(keys, sizeof SIGNING - 1, 1, object, sizeof SIGNED - 1, claims, 5) == LAKHDZEVA_FORM);
+}
+
+static void try_signer(void) {
+    static const struct {
+        const char *what, *keys;
+        uint32_t wanted;
+        size_t signer;
+    } rows[] = {
+        {"a key that is alone", SIGNING, 0, 0}, {"the key of the set", SET_OF(KEY_OF(SIGNING_K)), 0, 0},
+        {"the first of two", SET_OF(KEY_OF(SIGNING_K) "," KEY_OF("GawgguFyGrWKav7AX4VKUg")), 0, 0},
+        {"the second of two", SET_OF(KEY_OF("GawgguFyGrWKav7AX4VKUg") "," KEY_OF(SIGNING_K)), 0, 1},
+        {"the first of two that sign alike", SET_OF(KEY_OF("GawgguFyGrWKav7AX4VKUg") "," KEY_OF(SIGNING_K) "," KEY_OF(SIGNING_K "A") "," KEY_OF(SIGNING_K)), 0, 1},
+        {"a bad key before it", SET_OF("{\"kty\":\"RSA\"}," KEY_OF(SIGNING_K)), LAKHDZEVA_KEY, 0},
+        {"a bad key behind it", SET_OF(KEY_OF(SIGNING_K) ",{}"), LAKHDZEVA_KEY, 0}, {"no such key", KEY_OF(SIGNING_K "AA"), LAKHDZEVA_NOT_OPENED, 0},
+        {"a key for something else", "{\"kty\":\"oct\",\"k\":\"" SIGNING_K "\",\"use\":\"enc\"}", LAKHDZEVA_KEY_DOES_NOT_FIT, 0},
+    };
+    for (size_t at = 0; at < sizeof rows / sizeof *rows; at++) {
+        const char *keys = at_the_end(rows[at].keys, strlen(rows[at].keys)), *object = at_the_end(TEXT(SIGNED));
+        fresh();
+        uint32_t status = lakhdzeva_verify_signer(keys, strlen(rows[at].keys), object, sizeof SIGNED - 1, place, ROOM, &length, &other);
+        if (rows[at].wanted) refuses(rows[at].what, status, rows[at].wanted);
+        else gives(rows[at].what, status, TEXT(CLAIMS));
+        check("its place", other == rows[at].signer);
+    }
+    static const char second[] = SET_OF(KEY_OF("GawgguFyGrWKav7AX4VKUg") "," KEY_OF(SIGNING_K));
+    fresh();
+    check("a place that is too small by one octet", lakhdzeva_verify_signer(TEXT(second), TEXT(SIGNED), place, sizeof CLAIMS - 2, &length, &other) == LAKHDZEVA_WRITE
+        && length == sizeof CLAIMS - 1 && other == 0 && place[0] == 'x');
+    fresh();
+    refuses("10: an object with two parts", lakhdzeva_verify_signer(TEXT(second), TEXT("a.b"), place, ROOM, &length, &other), LAKHDZEVA_FORM);
+    fresh();
+    is_usage("the signer in the place", lakhdzeva_verify_signer(TEXT(SIGNING), TEXT(SIGNED), &other, sizeof other, &length, &other));
+    is_usage("no place for the signer", lakhdzeva_verify_signer(TEXT(SIGNING), TEXT(SIGNED), place, ROOM, &length, NULL));
 }
 
 /* The header of a recipient that asks for the most iterations: {"alg":"PBES2-HS256+A128KW","p2s":"AAAAAAAAAAA","p2c":2000000,"enc":"A128GCM"}. */
@@ -552,6 +587,7 @@ int main(void) {
     try_each_argument();
     try_places();
     try_signers();
+    try_signer();
     try_iterations();
     try_rooms();
     try_contents();

@@ -184,6 +184,10 @@ static enum lakhdzeva_status verify_deep(void) { return lakhdzeva_verify(TEXT(DE
 static enum lakhdzeva_status verify_other(void) { return lakhdzeva_verify(TEXT(SIGNING), TEXT("eyJhbGciOiJIUzI1NiJ9.aGk.AAAA"), 0, PLACE); }
 static enum lakhdzeva_status verify_apart(void) { return lakhdzeva_verify_detached(TEXT(SIGNING), apart, apart_length, 0, TEXT("payload")); }
 static enum lakhdzeva_status verify_apart_other(void) { return lakhdzeva_verify_detached(TEXT(SIGNING), apart, apart_length, 0, TEXT("other")); }
+static enum lakhdzeva_status verify_signer(void) { return lakhdzeva_verify_signer(TEXT(SIGNING), object, object_length, PLACE, &beside); }
+static enum lakhdzeva_status verify_signer_other(void) {
+    return lakhdzeva_verify_signer(TEXT(SIGNING), TEXT("eyJhbGciOiJIUzI1NiJ9.aGk.AAAA"), PLACE, &beside);
+}
 static enum lakhdzeva_status verify_all(void) { return lakhdzeva_verify_all(TEXT(SIGNING), 1, object, object_length, PLACE); }
 static enum lakhdzeva_status verify_two(void) { return lakhdzeva_verify_all(TEXT(SIGNING), 2, object, object_length, PLACE); }
 static enum lakhdzeva_status verify_all_apart(void) { return lakhdzeva_verify_all_detached(TEXT(SIGNING), 1, apart, apart_length, TEXT("payload")); }
@@ -269,7 +273,8 @@ int main(void) {
         {"thumbprints", thumbprint, LAKHDZEVA_OK}, {"thumbprints in a small place", thumbprint_small, LAKHDZEVA_WRITE}, {"sign", sign, LAKHDZEVA_OK},
         {"sign with a wrong flag", sign_badly, LAKHDZEVA_USAGE}, {"sign by another algorithm", sign_refused, LAKHDZEVA_KEY_DOES_NOT_FIT},
         {"verify", verify, LAKHDZEVA_OK}, {"verify another object", verify_other, LAKHDZEVA_NOT_OPENED}, {"verify_detached", verify_apart, LAKHDZEVA_OK},
-        {"verify_detached with another payload", verify_apart_other, LAKHDZEVA_NOT_OPENED}, {"verify_all", verify_all, LAKHDZEVA_OK},
+        {"verify_detached with another payload", verify_apart_other, LAKHDZEVA_NOT_OPENED}, {"verify_signer", verify_signer, LAKHDZEVA_OK}, {"verify_signer of another object", verify_signer_other, LAKHDZEVA_NOT_OPENED},
+        {"verify_all", verify_all, LAKHDZEVA_OK},
         {"verify_all with two signers", verify_two, LAKHDZEVA_KEY}, {"verify_all_detached", verify_all_apart, LAKHDZEVA_OK},
     };
     static const struct {

@@ -960,6 +960,7 @@ class Lies(Case):
             (lakhdzeva.sign_detached, {"keys": keys, "payload": contents, "template": templates, "compact": flags}),
             (lakhdzeva.verify, {"keys": keys, "token": [signed, compact, compact.encode()], "all": flags}),
             (lakhdzeva.verify_detached, {"keys": keys, "token": [apart], "payload": contents, "all": flags}),
+            (lakhdzeva.verify_signer, {"keys": keys, "token": [signed, compact, compact.encode()]}),
             (lakhdzeva.verify_all, {"keys": keys, "signers": [1, 2], "token": [signed, compact, compact.encode()]}),
             (lakhdzeva.verify_all_detached, {"keys": keys, "signers": [1, 2], "token": [apart], "payload": contents}),
             (lakhdzeva.encrypt, {"keys": wraps, "plaintext": contents, "template": templates, "compact": flags}),
@@ -1097,6 +1098,35 @@ class Lies(Case):
             lakhdzeva.sign(key, b"")
 
 
+class Signer(Case):
+    """verify_signer: which key of a set signed. The signatures are made by Python's hmac."""
+
+    def test_the_first_key_that_signed(self):
+        keys = [key_of(FIRST, kid="a"), key_of(SECOND, kid="b"), key_of(SECOND, kid="c")]
+        for signer, octets in ((0, FIRST), (1, SECOND)):
+            token = token_of(octets, '{"alg":"HS256"}', b"hi")
+            self.assertEqual(lakhdzeva.verify_signer(keys, token), (b"hi", signer))
+            self.assertEqual(lakhdzeva.verify_signer(lakhdzeva.Keys(keys), token).signer, signer)
+            self.assertEqual(lakhdzeva.verify_signer(key_of(octets), token).signer, 0)
+        both = signed_by(b"hi", SECOND, FIRST)
+        self.assertEqual(lakhdzeva.verify_signer(keys, both), (b"hi", 0))
+        self.assertEqual(lakhdzeva.verify_signer(keys[1:], both), (b"hi", 0))
+        self.assertEqual(lakhdzeva.verify_signer([key_of(bytes(32)), *keys], both).signer, 1)
+
+    def test_a_key_for_something_else_is_no_signer(self):
+        keys = [key_of(FIRST, use="enc"), key_of(FIRST, alg="HS512"), key_of(FIRST)]
+        self.assertEqual(lakhdzeva.verify_signer(keys, token_of(FIRST, '{"alg":"HS256"}', b"")).signer, 2)
+
+    def test_refusals(self):
+        token = token_of(FIRST, '{"alg":"HS256"}', b"hi")
+        for keys in ([{"kty": "RSA"}, key_of(FIRST)], [key_of(FIRST), {}], lakhdzeva.Keys([key_of(FIRST), {}])):
+            self.blames(Fault, 9, lakhdzeva.verify_signer, keys, token)
+        self.blames(Fault, 7, lakhdzeva.verify_signer, "{", token)
+        self.blames(BadToken, 17, lakhdzeva.verify_signer, key_of(SECOND), token)
+        self.blames(BadToken, 10, lakhdzeva.verify_signer, key_of(FIRST), "a.b")
+        self.blames(Fault, 14, lakhdzeva.verify_signer, key_of(FIRST, use="enc"), token)
+
+
 class Types(Case):
     def test_wrong_types(self):
         token, key = RFC7515_A1, RFC7515_KEY
@@ -1105,6 +1135,7 @@ class Types(Case):
             for call in (
                 lambda: lakhdzeva.sign(other, b""),
                 lambda: lakhdzeva.verify(other, token),
+                lambda: lakhdzeva.verify_signer(other, token),
                 lambda: lakhdzeva.verify_all(other, 1, token),
                 lambda: lakhdzeva.verify_detached(other, token, b""),
                 lambda: lakhdzeva.verify_all_detached(other, 1, token, b""),
@@ -1115,6 +1146,7 @@ class Types(Case):
                 lambda: lakhdzeva.thumbprints(other),
                 lambda: lakhdzeva.judge_keys(other),
                 lambda: lakhdzeva.verify(key, other),
+                lambda: lakhdzeva.verify_signer(key, other),
                 lambda: lakhdzeva.verify_all(key, 1, other),
                 lambda: lakhdzeva.decrypt(key, other),
                 lambda: lakhdzeva.format_signed(other),
@@ -1185,9 +1217,9 @@ class Types(Case):
         for name in lakhdzeva.__all__:
             self.assertTrue(getattr(lakhdzeva, name).__doc__)
         public = (
-            "BadToken Fault KeyUses Keys Refused decrypt encrypt encrypt_detached format_encrypted format_encrypted_detached format_signed "
+            "BadToken Fault KeyUses Keys Refused Signed decrypt encrypt encrypt_detached format_encrypted format_encrypted_detached format_signed "
             "format_signed_detached generate judge_keys library refusals sign sign_detached thumbprint thumbprints verify verify_all verify_all_detached "
-            "verify_detached"
+            "verify_detached verify_signer"
         )
         self.assertEqual(sorted(lakhdzeva.__all__), public.split())
 

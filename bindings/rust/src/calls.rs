@@ -81,6 +81,16 @@ unsafe extern "C" {
         payload: *const u8,
         payload_length: usize,
     ) -> u32;
+    fn lakhdzeva_verify_signer(
+        keys: *const u8,
+        keys_length: usize,
+        object: *const u8,
+        object_length: usize,
+        payload: *mut u8,
+        room: usize,
+        length: *mut usize,
+        signer: *mut usize,
+    ) -> u32;
     fn lakhdzeva_verify_all(
         keys: *const u8,
         keys_length: usize,
@@ -330,6 +340,27 @@ pub(crate) fn verify_detached(
             payload.len(),
         )
     })
+}
+
+pub(crate) fn verify_signer(keys: &[u8], object: &[u8]) -> Result<(Vec<u8>, usize), Refusal> {
+    let (text, size, mut signer) = (object.as_ptr(), object.len(), 0);
+    // SAFETY: as in `generate`. The place of the signer is a number of this function.
+    let payload = unsafe {
+        let room = lakhdzeva_verify_room(size);
+        answer(room, |(payload, length)| {
+            lakhdzeva_verify_signer(
+                keys.as_ptr(),
+                keys.len(),
+                text,
+                size,
+                payload,
+                room,
+                length,
+                &mut signer,
+            )
+        })
+    }?;
+    Ok((payload, signer))
 }
 
 pub(crate) fn verify_all(keys: &[u8], signers: usize, object: &[u8]) -> Result<Vec<u8>, Refusal> {

@@ -165,6 +165,11 @@ impl Keys {
         crate::verify_detached(&self.text, object, Signers::One, payload)
     }
 
+    /// [`verify_signer`](crate::verify_signer) with these keys.
+    pub fn verify_signer(&self, object: &[u8]) -> Result<(Vec<u8>, usize), Refusal> {
+        crate::verify_signer(&self.text, object)
+    }
+
     /// [`verify_all`](crate::verify_all) with these keys.
     pub fn verify_all(&self, signers: usize, object: &[u8]) -> Result<Vec<u8>, Refusal> {
         crate::verify_all(&self.text, signers, object)

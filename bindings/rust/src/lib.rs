@@ -288,6 +288,28 @@ pub fn verify_detached(
     calls::verify_detached(keys, object, signers.flag(), payload)
 }
 
+/// Verifies the object, and returns its payload and the place in the set, from 0, of the first key that made a signature.
+///
+/// It is for a service whose keys belong to different parties. A bad key is refused as by [`sign`], so the place counts every key of the set.
+///
+/// - Nobody but the owner of a key may know it: whoever has the octets of a key can sign as its owner.
+/// - An object in JSON form can have signatures of several keys. This names the first key of the set that made one, and no other.
+///
+/// The rest is as for [`verify`].
+///
+/// ```
+/// use lakhdzeva::{generate, sign, verify_signer, Form, Refusal};
+///
+/// let (ann, bob) = (generate(br#"{"alg":"HS256"}"#)?, generate(br#"{"alg":"HS256"}"#)?);
+/// let tenants = [br#"{"keys":["#, &ann[..], b",", &bob, b"]}"].concat();
+/// let object = sign(&bob, b"{}", Form::Compact, b"an order")?;
+/// assert_eq!(verify_signer(&tenants, object.as_bytes())?, (b"an order".to_vec(), 1));
+/// # Ok::<(), Refusal>(())
+/// ```
+pub fn verify_signer(keys: &[u8], object: &[u8]) -> Result<(Vec<u8>, usize), Refusal> {
+    calls::verify_signer(keys, object)
+}
+
 /// Verifies that each key of the set signed the object, and returns its payload. The text has exactly so many keys as there are `signers`.
 ///
 /// It is for rules about people, such as "Ann and Bob must both sign". A bad key is refused as by [`sign`]. Another number of keys is

@@ -189,6 +189,10 @@ fn each_method() {
     let object = keys.sign(b"{}", Form::Compact, b"hello").unwrap();
     assert_eq!(object.as_bytes(), SIGNED_BY_OTHER);
     assert_eq!(keys.verify_all(1, object.as_bytes()).unwrap(), b"hello");
+    assert_eq!(
+        keys.verify_signer(object.as_bytes()),
+        Ok((b"hello".to_vec(), 0))
+    );
     let object = keys.sign_detached(b"{}", Form::Compact, b"hello").unwrap();
     assert_eq!(keys.verify_detached(object.as_bytes(), b"hello"), Ok(()));
     assert_eq!(
@@ -200,6 +204,27 @@ fn each_method() {
     let (object, ciphertext) = wrap.encrypt_detached(b"{}", Form::Json, b"hello").unwrap();
     let opened = wrap.decrypt_with_iterations(object.as_bytes(), Some(&ciphertext), 0);
     assert_eq!(opened.unwrap(), b"hello");
+}
+
+#[test]
+fn the_signer_is_the_first_key_that_signed() {
+    let set = keys_of(&set_of(&[OTHER_KEY.to_string(), HS256_KEY.to_string()]));
+    let first = keys_of(OTHER_KEY)
+        .sign(br#"{"protected":{"alg":"HS256"}}"#, Form::Compact, b"hello")
+        .unwrap();
+    assert_eq!(
+        set.verify_signer(first.as_bytes()),
+        Ok((b"hello".to_vec(), 0))
+    );
+    let second = keys_of(HS256_KEY)
+        .sign(b"{}", Form::Compact, b"hello")
+        .unwrap();
+    let bad = keys_of(&set_of(&["{}".to_string(), HS256_KEY.to_string()]));
+    assert_eq!(bad.verify_signer(second.as_bytes()), Err(Refusal::Key));
+    assert_eq!(
+        keys_of(OTHER_KEY).verify_signer(b"eyJhbGciOiJIUzI1NiJ9.aGk.AAAA"),
+        Err(Refusal::NotOpened)
+    );
 }
 
 #[test]

@@ -47,7 +47,7 @@ fn placeholder<S: ReadFiles>(system: &S, folders: &[&str]) -> Result<Option<S::F
 where
     S::File: AsRawFd,
     ensures held { IfOk result (HoldsFirst (S.open_gives system.now) S.File.raw_fd (map (λ text. text.now) folders.now)) }
-    ensures memory { IfErr result (λ refusal. refusal ≡ Refusal.Memory) }
+    ensures memory { IfErr result (λ e. e ≡ Refusal.Memory) }
 {
     for folder in folders {
         match system.open(folder) {
@@ -73,7 +73,7 @@ pub fn placeholders<S: ReadFiles>(
 where
     S::File: AsRawFd,
     ensures held { IfOk result (AreHeld (S.open_gives system.now) S.File.raw_fd) }
-    ensures memory { IfErr result (λ refusal. refusal ≡ Refusal.Memory) }
+    ensures memory { IfErr result (λ e. e ≡ Refusal.Memory) }
 {
     Ok((
         placeholder(system, FOLDERS)?,

@@ -8,12 +8,15 @@ use Rattle.octets.specs.Plan.{OutputTexts, plan_from, planned}
 use Rattle.prf.specs.declared.digests.HashAlg.{HashAlg}
 use Rattle.prf.specs.declared.digests.HashAlg.TheVariants.{S224, S256, S384, S512}
 use Rattle.keys.specs.Keys.{OctetKey}
+use Rattle.keys.specs.KeySets.{key_set}
 use Rattle.keys.specs.Limits.{limits}
 use Rattle.keys.specs.SetMembers.{key_members}
 use Rattle.keys.specs.Thumbprints.{thp_answer}
+use Rattle.objects.specs.Jws.{jws_of}
 use Rattle.tokens.specs.Jws.{sig_answer}
 use Rattle.tokens.specs.Jwe.{enc_answer}
 use Rattle.tokens.specs.Judging.{KeyUses, uses_of}
+use Rattle.tokens.specs.Verifying.{verified_by}
 
 -- ---- arguments (docs/SPECIFICATION.md "Calls for C" 1)
 
@@ -68,3 +71,18 @@ unfoldable pub judged_keys : List ℕ → Result (List ℕ) Refusal
 judged_keys keys = do
   members ← key_members limits keys
   Ok (map member_number members)
+
+-- ---- the key that verified (docs/SPECIFICATION.md "Calls for C" 9)
+
+-- a payload, and the place of the key that signed it, from 0
+pub record SignedPayload : Type 0 where
+  pub payload : List ℕ
+  pub signer : ℕ
+
+-- the payload of the object and the place of the first key that verifies it, where each key of the text must be good
+unfoldable pub signer_answer : List ℕ → List ℕ → Result SignedPayload Refusal
+signer_answer keys object = do
+  set ← key_set limits keys true
+  o ← jws_of limits None object
+  signer ← verified_by set o
+  Ok (record { payload = o.payload; signer = signer })

@@ -2,7 +2,9 @@
 use Rattle.std.specs.Prelude.{◌≡◌, ◌≢◌, ◌⊎◌, ◌<◌, ◌≤◌, ℕ, List, [], ◌++◌, length, drop, Result, Ok, Err}
 use Rattle.octets.specs.declared.refusal.Refusal.{Refusal}
 use Rattle.octets.specs.declared.refusal.Refusal.TheVariants.{Usage, Read, Write, Memory, Random, Base64, Json, Number, Key, Form, Header, Unsupported, NoAlgorithm, KeyDoesNotFit, Limit, NotCompact, NotOpened}
+use Rattle.octets.specs.Outcomes.{◌>>=◌}
 use Rattle.octets.specs.Plan.{OutputTexts}
+use Rattle.lakhdzeva.specs.Answers.{SignedPayload}
 
 -- ---- the status (docs/SPECIFICATION.md "Refusals")
 
@@ -63,6 +65,12 @@ pub record Delivers (answer : Result (List ℕ) Refusal) (place : Place) (status
   pub refused : status ≢ 0 → status ≢ 3 → IsRefused answer status × (place.count ≡ 0)
   pub untouched : status ≢ 0 → place.new ≡ place.old
   pub no_read : status ≢ 2
+
+-- The same for a payload, with the place of its signer beside it, which is 0 whenever the status is not 0.
+pub record DeliversSigned (answer : Result SignedPayload Refusal) (place : Place) (signer status : ℕ) : Type 0 where
+  pub payload : Delivers (answer >>= λ signed. Ok signed.payload) place status
+  pub named : status ≡ 0 → (signed : SignedPayload) × (answer ≡ Ok signed) × (signer ≡ signed.signer)
+  pub none : status ≢ 0 → signer ≡ 0
 
 -- The same for a text and for a content beside it. Neither is written if one place is too small.
 pub record DeliversBoth (answer : Result OutputTexts Refusal) (text content : Place) (status : ℕ) : Type 0 where

@@ -9,8 +9,8 @@ ghost use Rattle.keys.specs.Generating.{gen_answer};
 ghost use Rattle.tokens.specs.Jws.{ver_answer, ver_all_answer, jws_fmt_answer};
 ghost use Rattle.tokens.specs.Jwe.{dec_answer_within, jwe_fmt_answer};
 ghost use Rattle.tokens.specs.Code.Uses.{uses_view};
-ghost use Rattle.lakhdzeva.specs.Answers.{if_given, hash_of_bits, thumbprints_answer, sign_answer, encrypt_answer, judged_keys, member_number, good_number};
-ghost use Rattle.lakhdzeva.specs.Code.{both, payload_of_object, verified_by};
+ghost use Rattle.lakhdzeva.specs.Answers.{if_given, hash_of_bits, thumbprints_answer, sign_answer, encrypt_answer, judged_keys, member_number, good_number, signer_answer};
+ghost use Rattle.lakhdzeva.specs.Code.{both, payload_of_object, signed_view, verified_by};
 
 use crate::growing::GrowingOutput;
 use keys::{Key, KeySet, generate, read_members, text_thumbprints};
@@ -18,7 +18,10 @@ use objects::{Jwe, Jws};
 use octets::{MemoryInput, Refusal};
 use prf::HashAlg;
 use std::alloc::Global;
-use tokens::{KeyUses, jwe_encrypt, jwe_plaintext, jws_sign, jws_verify, key_uses, needs_signers};
+use tokens::{
+    KeyUses, jwe_encrypt, jwe_plaintext, jws_sign, jws_verified_by, jws_verify, key_uses,
+    needs_signers,
+};
 
 /// The text of an object, and a content beside it.
 #[derive(Drop)]
@@ -217,6 +220,21 @@ pub(crate) fn verify_with_payload(
 {
     let set = KeySet::read(alloc, keys, false)?;
     verify_payload_by(alloc, &set, object, payload, all)
+}
+
+/// The object and the place of the first key that signed it, if every key is good.
+#[tactic(auto, unfolding(crate::specs::Answers::signer_answer))]
+pub(crate) fn signed_object<'t>(
+    alloc: Global,
+    keys: &[u8],
+    object: &'t [u8],
+) -> Result<(Jws<'t>, usize), Refusal>
+    ensures { GivesUnlessExternal signed_view result (signer_answer keys.now object.now) }
+{
+    let set = KeySet::read(alloc, keys, true)?;
+    let jws = Jws::read(alloc, object, None)?;
+    let signer = jws_verified_by(&set, &jws)?;
+    Ok((jws, signer))
 }
 
 /// The object, if each of so many signers signed it. Its payload is the answer.

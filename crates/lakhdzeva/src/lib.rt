@@ -11,8 +11,8 @@ ghost use Rattle.keys.specs.Limits.{limits};
 ghost use Rattle.keys.specs.Generating.{gen_answer};
 ghost use Rattle.tokens.specs.Jws.{ver_answer, ver_all_answer, jws_fmt_answer};
 ghost use Rattle.tokens.specs.Jwe.{dec_answer_within, jwe_fmt_answer};
-ghost use Rattle.lakhdzeva.specs.Answers.{if_given, thumbprints_answer, sign_answer, encrypt_answer, judged_keys};
-ghost use Rattle.lakhdzeva.specs.Calls.{Tells, Delivers, DeliversBoth};
+ghost use Rattle.lakhdzeva.specs.Answers.{if_given, thumbprints_answer, sign_answer, encrypt_answer, judged_keys, signer_answer};
+ghost use Rattle.lakhdzeva.specs.Calls.{Tells, Delivers, DeliversBoth, DeliversSigned};
 
 mod answers;
 mod growing;
@@ -20,10 +20,10 @@ mod places;
 
 use crate::answers::{
     Form, encrypted_form, encrypted_texts, judged_members, key_text, object_of_signers,
-    plaintext_of, signed_form, signed_text, thumbprint_lines, verified_object,
+    plaintext_of, signed_form, signed_object, signed_text, thumbprint_lines, verified_object,
     verify_all_with_payload, verify_with_payload,
 };
-use crate::places::{deliver, deliver_both, deliver_payload, told};
+use crate::places::{deliver, deliver_both, deliver_payload, deliver_signed, told};
 use std::alloc::Global;
 
 /// Makes a key as the template asks, from octets at the front of `random`, which are all new. Most templates need at most 64 of them, and
@@ -118,6 +118,23 @@ pub extern "C" fn lakhdzeva_core_verify_detached(
     ensures { Tells (ver_answer limits all false keys.now (Some payload.now) object.now) result }
 {
     told(verify_with_payload(alloc, keys, object, payload, all))
+}
+
+/// Verifies the object, and gives its payload and the place, from 0, of the first key that verifies it (RFC 7515). Every key of the text must
+/// be good, so the place is that of a member of the set, or 0 for a key that is alone.
+#[unsafe(no_mangle)]
+pub extern "C" fn lakhdzeva_core_verify_signer(
+    alloc: Global,
+    keys: &[u8],
+    object: &[u8],
+    payload: &mut [u8],
+    count: &mut usize,
+    signer: &mut usize,
+) -> u32
+    ensures { DeliversSigned (signer_answer keys.now object.now)
+        (record { old = payload.old; new = payload.new; count = count.new }) signer.new result }
+{
+    deliver_signed(signed_object(alloc, keys, object), payload, count, signer)
 }
 
 /// Verifies the object by each of so many signers, and gives its payload (RFC 7515). Every key must be good, there must be one for each

@@ -3,8 +3,9 @@ ghost use Rattle.std.specs.Prelude.{◌≡◌, ◌≢◌, ◌≤◌, [], ◌++�
 ghost use Rattle.octets.specs.Outcomes.{GivesUnlessExternal, is_external};
 ghost use Rattle.octets.specs.Plan.{OutputTexts};
 ghost use Rattle.octets.specs.declared.refusal.Refusal.{Refusal};
-ghost use Rattle.lakhdzeva.specs.Calls.{number_of, Tells, Delivers, DeliversBoth};
-ghost use Rattle.lakhdzeva.specs.Code.{both, payload_of_object};
+ghost use Rattle.lakhdzeva.specs.Answers.{SignedPayload};
+ghost use Rattle.lakhdzeva.specs.Calls.{number_of, Tells, Delivers, DeliversBoth, DeliversSigned};
+ghost use Rattle.lakhdzeva.specs.Code.{both, payload_of_object, signed_view};
 
 use crate::answers::Both;
 use objects::Jws;
@@ -63,6 +64,29 @@ pub(crate) fn deliver_payload(
         Err(refusal) => {
             *count = 0;
             number(in_memory(refusal))
+        }
+    }
+}
+
+/// Writes the payload of the object to the front of the place, if there is room, and the place of its signer into `signer`.
+pub(crate) fn deliver_signed(
+    made: Result<(Jws<'_>, usize), Refusal>,
+    place: &mut [u8],
+    count: &mut usize,
+    signer: &mut usize,
+) -> u32
+    ensures { (answer : Result SignedPayload Refusal) → GivesUnlessExternal signed_view made.entry answer
+        → DeliversSigned answer (record { old = place.old; new = place.new; count = count.new }) signer.new result }
+{
+    match made {
+        Ok((object, first)) => {
+            let status = deliver_payload(Ok(object), place, count);
+            *signer = if status == 0 { first } else { 0 };
+            status
+        }
+        Err(refusal) => {
+            *signer = 0;
+            deliver_payload(Err(refusal), place, count)
         }
     }
 }

@@ -1,6 +1,6 @@
 //! Writing the text of an object of either kind (RFC 7515 section 7, RFC 7516 section 7): as one text with its values, or as the texts
 //! around places that are left for values.
-ghost use Rattle.std.specs.Prelude.{◌≡◌, ◌++◌, true, false, map, option_map, Err, Ok, IfOk, IfErr, OnOk, OnErr, string_bytes};
+ghost use Rattle.std.specs.Prelude.{◌≡◌, ◌++◌, true, false, map, option_map, Ok, IfOk, IfErr, OnOk, string_bytes};
 ghost use Rattle.serde_json.specs.Data.{object};
 ghost use Rattle.serde_json.specs.View.{view, members_view};
 ghost use Rattle.serde_json.specs.Written.{has_float};
@@ -45,7 +45,7 @@ pub(crate) trait Listed {
     /// Writes its members.
     fn write(&self, alloc: Global, texts: &mut TextWriter) -> Result<(), Refusal>
         ensures written { OnOk result (written_view texts.new ≡ with_one (seen self.now) (written_view texts.old)) }
-        ensures memory { OnErr result (result ≡ Err Refusal.Memory) };
+        ensures memory { IfErr result (λ e. e ≡ Refusal.Memory) };
 }
 
 impl TextWriter {
@@ -83,7 +83,7 @@ impl TextWriter {
     /// Adds a text as it is.
     pub(crate) fn push(&mut self, text: &str) -> Result<(), Refusal>
         ensures written { OnOk result (written_view self.new ≡ pushed text.now (written_view self.old)) }
-        ensures memory { OnErr result (result ≡ Err Refusal.Memory) }
+        ensures memory { IfErr result (λ e. e ≡ Refusal.Memory) }
     {
         Ok(self.text.push_str(text)?)
     }
@@ -91,7 +91,7 @@ impl TextWriter {
     /// Leaves a place, or writes the base64url text of the content.
     fn slot(&mut self, alloc: Global, content: HeldContent<'_>) -> Result<(), Refusal>
         ensures written { OnOk result (written_view self.new ≡ with_slot (held_view content.entry) (written_view self.old)) }
-        ensures memory { OnErr result (result ≡ Err Refusal.Memory) }
+        ensures memory { IfErr result (λ e. e ≡ Refusal.Memory) }
     {
         if self.places {
             let text = mem::replace(&mut self.text, String::new(alloc));
@@ -104,7 +104,7 @@ impl TextWriter {
     /// Opens an object or a list.
     pub(crate) fn begin(&mut self, bracket: &str) -> Result<(), Refusal>
         ensures written { OnOk result (written_view self.new ≡ opened bracket.now (written_view self.old)) }
-        ensures memory { OnErr result (result ≡ Err Refusal.Memory) }
+        ensures memory { IfErr result (λ e. e ≡ Refusal.Memory) }
     {
         self.text.push_str(bracket)?;
         self.later = false;
@@ -114,7 +114,7 @@ impl TextWriter {
     /// Closes it.
     pub(crate) fn end(&mut self, bracket: &str) -> Result<(), Refusal>
         ensures written { OnOk result (written_view self.new ≡ closed bracket.now (written_view self.old)) }
-        ensures memory { OnErr result (result ≡ Err Refusal.Memory) }
+        ensures memory { IfErr result (λ e. e ≡ Refusal.Memory) }
     {
         self.text.push_str(bracket)?;
         self.later = true;
@@ -124,7 +124,7 @@ impl TextWriter {
     /// Writes a comma if the object or list is not empty.
     pub(crate) fn separate(&mut self) -> Result<(), Refusal>
         ensures written { OnOk result (written_view self.new ≡ separated (written_view self.old)) }
-        ensures memory { OnErr result (result ≡ Err Refusal.Memory) }
+        ensures memory { IfErr result (λ e. e ≡ Refusal.Memory) }
     {
         if self.later {
             self.push(",")?;
@@ -135,7 +135,7 @@ impl TextWriter {
     /// Begins a member with its name, which needs no escape.
     pub(crate) fn name(&mut self, name: &str) -> Result<(), Refusal>
         ensures written { OnOk result (written_view self.new ≡ named name.now (written_view self.old)) }
-        ensures memory { OnErr result (result ≡ Err Refusal.Memory) }
+        ensures memory { IfErr result (λ e. e ≡ Refusal.Memory) }
     {
         self.separate()?;
         self.push("\"")?;
@@ -147,7 +147,7 @@ impl TextWriter {
     fn value(&mut self, alloc: Global, name: &str, value: &Value) -> Result<(), Refusal>
         requires { has_float (view value.now) ≡ false }
         ensures written { OnOk result (written_view self.new ≡ with_value name.now (view value.now) (written_view self.old)) }
-        ensures memory { OnErr result (result ≡ Err Refusal.Memory) }
+        ensures memory { IfErr result (λ e. e ≡ Refusal.Memory) }
     {
         let text = value.to_string(alloc)?;
         self.name(name)?;
@@ -157,7 +157,7 @@ impl TextWriter {
     /// Writes a member that is a text, unless it is empty.
     pub(crate) fn text(&mut self, alloc: Global, name: &str, text: String) -> Result<(), Refusal>
         ensures written { OnOk result (written_view self.new ≡ with_text name.now (string_bytes text) (written_view self.old)) }
-        ensures memory { OnErr result (result ≡ Err Refusal.Memory) }
+        ensures memory { IfErr result (λ e. e ≡ Refusal.Memory) }
     {
         if text.is_empty() {
             return Ok(());
@@ -168,7 +168,7 @@ impl TextWriter {
     /// Writes a member that is the base64url text of the octets, unless there are none.
     pub(crate) fn octets(&mut self, alloc: Global, name: &str, octets: &[u8]) -> Result<(), Refusal>
         ensures written { OnOk result (written_view self.new ≡ with_text name.now (base64url octets.now) (written_view self.old)) }
-        ensures memory { OnErr result (result ≡ Err Refusal.Memory) }
+        ensures memory { IfErr result (λ e. e ≡ Refusal.Memory) }
     {
         let text = b64_encode(alloc, octets)?;
         self.text(alloc, name, text)
@@ -182,7 +182,7 @@ impl TextWriter {
         header: &HeaderMembers,
     ) -> Result<(), Refusal>
         ensures written { OnOk result (written_view self.new ≡ with_header name.now (members_view header.now.map.entries) (written_view self.old)) }
-        ensures memory { OnErr result (result ≡ Err Refusal.Memory) }
+        ensures memory { IfErr result (λ e. e ≡ Refusal.Memory) }
     {
         if has_members(&header.map) {
             let value = header_value(alloc, header)?;
@@ -200,7 +200,7 @@ impl TextWriter {
         content: HeldContent<'_>,
     ) -> Result<(), Refusal>
         ensures written { OnOk result (written_view self.new ≡ with_place name.now (held_view content.entry) (written_view self.old)) }
-        ensures memory { OnErr result (result ≡ Err Refusal.Memory) }
+        ensures memory { IfErr result (λ e. e ≡ Refusal.Memory) }
     {
         held_octets(&content);
         self.name(name)?;
@@ -217,7 +217,7 @@ impl TextWriter {
         content: Option<HeldContent<'_>>,
     ) -> Result<(), Refusal>
         ensures written { OnOk result (written_view self.new ≡ with_content name.now (option_map held_view content.entry) (written_view self.old)) }
-        ensures memory { OnErr result (result ≡ Err Refusal.Memory) }
+        ensures memory { IfErr result (λ e. e ≡ Refusal.Memory) }
     {
         match content {
             None => Ok(()),
@@ -233,7 +233,7 @@ impl TextWriter {
         items: &[T],
     ) -> Result<(), Refusal>
         ensures written { OnOk result (written_view self.new ≡ with_list name.now T.with_one (map T.seen items.now) (written_view self.old)) }
-        ensures memory { OnErr result (result ≡ Err Refusal.Memory) }
+        ensures memory { IfErr result (λ e. e ≡ Refusal.Memory) }
     {
         self.name(name)?;
         self.begin("[")?;
@@ -244,7 +244,7 @@ impl TextWriter {
     /// Writes the items, one after another.
     fn items<T: Listed>(&mut self, alloc: Global, items: &[T]) -> Result<(), Refusal>
         ensures written { OnOk result (written_view self.new ≡ with_items T.with_one (map T.seen items.now) (written_view self.old)) }
-        ensures memory { OnErr result (result ≡ Err Refusal.Memory) }
+        ensures memory { IfErr result (λ e. e ≡ Refusal.Memory) }
     {
         for item in items {
             self.separate()?;
@@ -258,7 +258,7 @@ impl TextWriter {
     /// Writes a dot and a part of a compact text.
     pub(crate) fn part(&mut self, octets: &[u8]) -> Result<(), Refusal>
         ensures written { OnOk result (written_view self.new ≡ with_part octets.now (written_view self.old)) }
-        ensures memory { OnErr result (result ≡ Err Refusal.Memory) }
+        ensures memory { IfErr result (λ e. e ≡ Refusal.Memory) }
     {
         self.push(".")?;
         b64_append(&mut self.text, octets)
@@ -271,7 +271,7 @@ impl TextWriter {
         content: HeldContent<'_>,
     ) -> Result<(), Refusal>
         ensures written { OnOk result (written_view self.new ≡ with_place_part (held_view content.entry) (written_view self.old)) }
-        ensures memory { OnErr result (result ≡ Err Refusal.Memory) }
+        ensures memory { IfErr result (λ e. e ≡ Refusal.Memory) }
     {
         self.push(".")?;
         self.slot(alloc, content)
@@ -284,7 +284,7 @@ impl TextWriter {
         content: Option<HeldContent<'_>>,
     ) -> Result<(), Refusal>
         ensures written { OnOk result (written_view self.new ≡ with_content_part (option_map held_view content.entry) (written_view self.old)) }
-        ensures memory { OnErr result (result ≡ Err Refusal.Memory) }
+        ensures memory { IfErr result (λ e. e ≡ Refusal.Memory) }
     {
         match content {
             None => self.push("."),
@@ -312,7 +312,7 @@ fn held_octets(content: &HeldContent<'_>)
 /// Appends the base64url text of the content to a text.
 fn append(text: &mut String, content: HeldContent<'_>) -> Result<(), Refusal>
     ensures text { OnOk result (string_bytes text.new ≡ string_bytes text.old ++ base64url (held_view content.entry)) }
-    ensures memory { OnErr result (result ≡ Err Refusal.Memory) }
+    ensures memory { IfErr result (λ e. e ≡ Refusal.Memory) }
 {
     match content {
         HeldContent::Text(received) => append_received(text, &received),
@@ -324,7 +324,7 @@ fn append(text: &mut String, content: HeldContent<'_>) -> Result<(), Refusal>
 #[tactic(auto, using(crate::proofs::Spelling::spelled_is_json))]
 fn append_received(text: &mut String, received: &ReceivedText<'_>) -> Result<(), Refusal>
     ensures text { OnOk result (string_bytes text.new ≡ string_bytes text.old ++ base64url (received_view received.now)) }
-    ensures memory { OnErr result (result ≡ Err Refusal.Memory) }
+    ensures memory { IfErr result (λ e. e ≡ Refusal.Memory) }
 {
     let Ok(characters) = str::from_utf8(received.text()) else {
         unreachable!()

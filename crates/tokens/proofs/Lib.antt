@@ -17,6 +17,8 @@ pub mod Signing
 pub mod Verifying
 pub mod Encrypting
 pub mod Decrypting
+-- keys do only what they may
+pub mod Uses
 -- more algorithms open the same objects alike
 pub mod MoreAlgorithms
 -- the lemmas that the crates above cite

@@ -4,6 +4,7 @@ ghost use Rattle.ciphers.specs.declared.key_alg.KeyAlg.{KeyAlg};
 ghost use Rattle.keys.specs.Limits.{Limits, limits};
 ghost use Rattle.tokens.specs.Decrypting.{FewerIterationsRefuse};
 ghost use Rattle.tokens.specs.Encrypting.{AreSound, EncryptedDecrypts, EncryptingGrows, EncryptingMakesTexts};
+ghost use Rattle.tokens.specs.Judging.{VerifiersMayVerify, DecryptersMayDecrypt};
 ghost use Rattle.tokens.specs.MoreAlgorithms.{earlier_limits, earlier_management_algs, gcm_management_algs, knowing, OpensAlike};
 ghost use Rattle.tokens.specs.Signers.{AlikeKeysSignAlike};
 ghost use Rattle.tokens.specs.Signing.{SigningGrows, SigningMakesTexts};
@@ -34,6 +35,12 @@ pub fn what_is_signed_verifies()
 /// Some key verifies an object exactly if `jws_verified_by` names a first one, and the refusals are the same.
 pub fn first_verifies()
     ensures { FirstVerifies }
+{}
+
+/// Keys of which none may verify verify nothing, and those of which none may decrypt decrypt nothing. So `key_uses` tells what to expect.
+pub fn keys_do_what_they_may()
+    ensures verify { VerifiersMayVerify }
+    ensures decrypt { DecryptersMayDecrypt }
 {}
 
 /// Keys of which HMAC makes the same block make the same signatures (RFC 2104 section 2). So they stand for one signer.

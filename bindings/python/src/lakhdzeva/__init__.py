@@ -56,6 +56,7 @@ __all__ = [
     "KeyUses",
     "Keys",
     "Refused",
+    "Signed",
     "decrypt",
     "encrypt",
     "encrypt_detached",
@@ -75,6 +76,7 @@ __all__ = [
     "verify_all",
     "verify_all_detached",
     "verify_detached",
+    "verify_signer",
 ]
 
 
@@ -231,6 +233,34 @@ def verify_detached(keys: KeysLike, token: Json, payload: Octets, *, all: bool =
     status = _library.verify_detached(text, len(text), octets, len(octets), flags, content, len(content))
     if status:
         raise blamed(status, keys, True)
+
+
+class Signed(NamedTuple):
+    """The payload of a token, and the place of the key that signed it, from 0."""
+
+    payload: bytes
+    signer: int
+
+
+def verify_signer(keys: KeysLike, token: Json) -> Signed:
+    """Verifies a signed token, and returns its payload and the place in the set, from 0, of the first key that made a signature.
+
+    It is for a service whose keys belong to different parties. A bad key is refused as by ``sign``, so the place counts every key of the set.
+
+    - Nobody but the owner of a key may know it: whoever has the octets of a key can sign as its owner.
+    - A token in JSON form can have signatures of several keys. This names the first key of the set that made one, and no other.
+
+    The rest is as for ``verify``.
+
+    Refusals: Json, Number, Key and Limit for bad keys; Json, Number, Form, Limit, Base64, Header and Unsupported for a bad token;
+    KeyDoesNotFit if no key may verify a signature; NotOpened if no signature is right; Memory.
+    """
+    text, octets = text_of(keys), _arguments.json_text("token", token)
+    arguments = (text, len(text), octets, len(octets))
+    status, payload, signer = _library.written_with_number(_library.verify_signer, arguments, _library.verify_room(len(octets)))
+    if status:
+        raise blamed(status, keys, True)
+    return Signed(payload.content(), signer)
 
 
 def verify_all(keys: KeysLike, signers: int, token: Json) -> bytes:

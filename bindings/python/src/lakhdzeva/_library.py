@@ -56,6 +56,7 @@ judge_keys, judge_keys_room = function("judge_keys", *_TEXT, *_PLACE), _room("ju
 sign, sign_room = function("sign", *_TEXT, *_TEXT, c_uint, *_TEXT, *_PLACE), _room("sign", 3)
 verify, verify_room = function("verify", *_TEXT, *_TEXT, c_uint, *_PLACE), _room("verify", 1)
 verify_detached = function("verify_detached", *_TEXT, *_TEXT, c_uint, *_TEXT)
+verify_signer = function("verify_signer", *_TEXT, *_TEXT, *_PLACE, ctypes.POINTER(c_size_t))
 verify_all = function("verify_all", *_TEXT, c_size_t, *_TEXT, *_PLACE)
 verify_all_detached = function("verify_all_detached", *_TEXT, c_size_t, *_TEXT, *_TEXT)
 encrypt, encrypt_room = function("encrypt", *_TEXT, *_TEXT, c_uint, *_TEXT, *_PLACE, *_PLACE), _room("encrypt", 3)
@@ -112,3 +113,10 @@ def written(called: Any, arguments: Tuple[Any, ...], *rooms: int) -> Tuple[int, 
     """Calls a function that writes as many answers as there are rooms. Returns its status, and the places of the answers."""
     places = [Place(room) for room in rooms]
     return called(*arguments, *(it for place in places for it in place.arguments())), places
+
+
+def written_with_number(called: Any, arguments: Tuple[Any, ...], room: int) -> Tuple[int, Place, int]:
+    """Calls a function that writes an answer and a number. Returns its status, the place of the answer, and the number."""
+    place, number = Place(room), c_size_t()
+    status = called(*arguments, *place.arguments(), byref(number))
+    return status, place, number.value

@@ -1,5 +1,5 @@
 //! The texts of an encrypted object (RFC 7516 section 7). An object is refused only if a form cannot hold it.
-ghost use Rattle.std.specs.Prelude.{◌≡◌, ◌≢◌, map, option_map, Err, Ok, IfOk, IfErr, OnOk, OnErr, string_bytes};
+ghost use Rattle.std.specs.Prelude.{◌≡◌, ◌≢◌, map, option_map, Err, Ok, IfOk, IfErr, OnOk, string_bytes};
 ghost use Rattle.octets.specs.Code.Results.{AgreesUnlessMemory};
 ghost use Rattle.keys.specs.Limits.{limits};
 ghost use Rattle.objects.specs.Code.Frames.{IsJweFrame, jwe_frame};
@@ -92,7 +92,7 @@ fn write_compact(
 ) -> Result<(), Refusal>
     ensures written { OnOk result (written_view texts.new
         ≡ with_compact (option_map held_view ciphertext.entry) (parts_of (jwe_view jwe.now)) (written_view texts.old)) }
-    ensures memory { OnErr result (result ≡ Err Refusal.Memory) }
+    ensures memory { IfErr result (λ e. e ≡ Refusal.Memory) }
 {
     texts.push(jwe.protected())?;
     texts.part(key_of_first(jwe.recipients()))?;
@@ -110,7 +110,7 @@ fn write_members(
 ) -> Result<(), Refusal>
     ensures written { OnOk result (written_view texts.new
         ≡ with_members (option_map held_view ciphertext.entry) (parts_of (jwe_view jwe.now)) (written_view texts.old)) }
-    ensures memory { OnErr result (result ≡ Err Refusal.Memory) }
+    ensures memory { IfErr result (λ e. e ≡ Refusal.Memory) }
 {
     texts.octets(alloc, "aad", jwe.aad())?;
     texts.content(alloc, "ciphertext", ciphertext)?;
@@ -134,7 +134,7 @@ fn write_flattened(
 ) -> Result<(), Refusal>
     ensures written { OnOk result (written_view texts.new
         ≡ with_flattened (map recipient_parts_of (map recipient_view recipients.now)) (written_view texts.old)) }
-    ensures memory { OnErr result (result ≡ Err Refusal.Memory) }
+    ensures memory { IfErr result (λ e. e ≡ Refusal.Memory) }
 {
     match recipients {
         [recipient] => recipient.write(alloc, texts),
@@ -151,7 +151,7 @@ fn write_general(
 ) -> Result<(), Refusal>
     ensures written { OnOk result (written_view texts.new
         ≡ with_general (map recipient_parts_of (map recipient_view recipients.now)) (written_view texts.old)) }
-    ensures memory { OnErr result (result ≡ Err Refusal.Memory) }
+    ensures memory { IfErr result (λ e. e ≡ Refusal.Memory) }
 {
     match recipients {
         [_] => Ok(()),
@@ -180,7 +180,7 @@ impl Listed for Recipient {
 #[tactic(auto, using(crate::proofs::JweFrames::tag_is_placed, crate::proofs::JweFrames::tag_is_absent))]
 fn write_tag(alloc: Global, texts: &mut TextWriter, tag: &[u8]) -> Result<(), Refusal>
     ensures written { OnOk result (written_view texts.new ≡ with_tag tag.now (written_view texts.old)) }
-    ensures memory { OnErr result (result ≡ Err Refusal.Memory) }
+    ensures memory { IfErr result (λ e. e ≡ Refusal.Memory) }
 {
     are_octets(tag);
     if texts.places || !tag.is_empty() {

@@ -1,5 +1,5 @@
 //! The texts of a signed object (RFC 7515 section 7). An object is refused only if a form cannot hold it.
-ghost use Rattle.std.specs.Prelude.{◌≡◌, ◌≢◌, map, option_map, Err, Ok, IfOk, IfErr, OnOk, OnErr, string_bytes};
+ghost use Rattle.std.specs.Prelude.{◌≡◌, ◌≢◌, map, option_map, Err, Ok, IfOk, IfErr, OnOk, string_bytes};
 ghost use Rattle.octets.specs.Code.Results.{AgreesUnlessMemory};
 ghost use Rattle.keys.specs.Limits.{limits};
 ghost use Rattle.objects.specs.Code.Frames.{IsJwsFrame, jws_frame};
@@ -91,7 +91,7 @@ fn write_compact(
 ) -> Result<(), Refusal>
     ensures written { OnOk result (written_view texts.new
         ≡ with_compact (option_map held_view payload.entry) (map signature_parts_of (map signature_view signatures.now)) (written_view texts.old)) }
-    ensures memory { OnErr result (result ≡ Err Refusal.Memory) }
+    ensures memory { IfErr result (λ e. e ≡ Refusal.Memory) }
 {
     match signatures {
         [] => Ok(()),
@@ -112,7 +112,7 @@ fn write_signatures(
 ) -> Result<(), Refusal>
     ensures written { OnOk result (written_view texts.new
         ≡ with_signatures (option_map held_view payload.entry) (map signature_parts_of (map signature_view signatures.now)) (written_view texts.old)) }
-    ensures memory { OnErr result (result ≡ Err Refusal.Memory) }
+    ensures memory { IfErr result (λ e. e ≡ Refusal.Memory) }
 {
     match signatures {
         [signature] => write_flattened(alloc, texts, payload, signature),
@@ -129,7 +129,7 @@ fn write_flattened(
 ) -> Result<(), Refusal>
     ensures written { OnOk result (written_view texts.new
         ≡ with_signature (option_map held_view payload.entry) (signature_parts_of (signature_view signature.now)) (written_view texts.old)) }
-    ensures memory { OnErr result (result ≡ Err Refusal.Memory) }
+    ensures memory { IfErr result (λ e. e ≡ Refusal.Memory) }
 {
     texts.header(alloc, "header", &signature.header)?;
     texts.content(alloc, "payload", payload)?;
@@ -155,7 +155,7 @@ fn write_general(
 ) -> Result<(), Refusal>
     ensures written { OnOk result (written_view texts.new
         ≡ with_general (option_map held_view payload.entry) (map signature_parts_of (map signature_view signatures.now)) (written_view texts.old)) }
-    ensures memory { OnErr result (result ≡ Err Refusal.Memory) }
+    ensures memory { IfErr result (λ e. e ≡ Refusal.Memory) }
 {
     texts.content(alloc, "payload", payload)?;
     texts.list(alloc, "signatures", signatures)

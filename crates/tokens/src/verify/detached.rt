@@ -1,5 +1,5 @@
 //! Verifying an object whose detached payload is read once (RFC 7515 section 5.2 and appendix F).
-ghost use Rattle.std.specs.Prelude.{◌≡◌, ℕ, true, false, List, [], ◌∷◌, ◌++◌, map, Err, IfOk, IfErr, OnOk, OnErr, IsTrue};
+ghost use Rattle.std.specs.Prelude.{◌≡◌, ℕ, true, false, List, [], ◌∷◌, ◌++◌, map, IfOk, IfErr, OnOk, IsTrue};
 ghost use Rattle.std.specs.Iterator.{IsFinite};
 ghost use Rattle.std.specs.List.{list_any};
 ghost use Rattle.std.specs.Vec.Iter.{into_iter_items};
@@ -89,7 +89,7 @@ fn push_inputs_of_key(
     ensures pushed { (starts : List InputStart) → HoldEach ⟦<HmacInput as SigningInput>⟧.has_taken inputs.old.items starts []
         → OnOk result (HoldEach ⟦<HmacInput as SigningInput>⟧.has_taken inputs.new.items
         (starts ++ starts_for_key (pointed_views heads.now) (key_view key.now)) []) }
-    ensures memory { OnErr result (result ≡ Err Refusal.Memory) }
+    ensures memory { IfErr result (λ e. e ≡ Refusal.Memory) }
 {
     for head in heads {
         push_input(inputs, key, head)?;
@@ -102,7 +102,7 @@ fn push_input(inputs: &mut Vec<HmacInput>, key: &Key, head: &Signature) -> Resul
     ensures pushed { (starts : List InputStart) → HoldEach ⟦<HmacInput as SigningInput>⟧.has_taken inputs.old.items starts []
         → OnOk result (HoldEach ⟦<HmacInput as SigningInput>⟧.has_taken inputs.new.items
         (starts ++ starts_for_pair (signature_view head.now) (key_view key.now)) []) }
-    ensures memory { OnErr result (result ≡ Err Refusal.Memory) }
+    ensures memory { IfErr result (λ e. e ≡ Refusal.Memory) }
 {
     match candidate_alg(head, key) {
         None => Ok(()),
