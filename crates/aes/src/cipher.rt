@@ -1,5 +1,4 @@
-//! The rounds and their inverse (FIPS 197 sections 5.1 and 5.3), over the round keys of any size of key. A round goes over
-//! each block of a vector.
+//! The rounds and their inverse (FIPS 197 sections 5.1 and 5.3) on each block of a vector, over the round keys of any size of key.
 ghost use Rattle.std.specs.Prelude.{◌≡◌, ℕ, ◌+◌, ◌*◌, ◌≤◌, ◌<◌, length};
 ghost use Rattle.aes.specs.Cipher.{cipher};
 ghost use Rattle.aes.specs.InverseCipher.{inverse_sub_bytes, inverse_shift_rows, inverse_mix_columns, inverse_cipher};

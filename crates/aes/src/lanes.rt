@@ -1,5 +1,5 @@
-//! Vectors of whole blocks: of sixteen octets for one block, of 32 for two. What is done to a vector is done to each of its blocks. With
-//! vectors of 32 octets (AVX2 of x86-64-v3) a processor does it to two blocks in the time of one.
+//! Vectors of one block and of two. What is done to a vector is done to each of its blocks. A processor with registers of 32 octets, as
+//! x86-64-v3 has, does it to two blocks in the time of one. On others a vector of two blocks is two registers.
 ghost use Rattle.std.specs.Prelude.{◌≡◌, ℕ, ◌+◌, ◌*◌, ◌<◌, ◌≤◌, true, map};
 ghost use Rattle.std.proofs.Common.{lit≤};
 ghost use Rattle.std.specs.Simd.Lanes.{all_below, pick_l};
@@ -8,9 +8,9 @@ ghost use Rattle.aes.specs.Code.LookUps.{AreInTable, entry};
 
 use std::simd::{Simd, u8x16, u8x32};
 
-/// The vectors of N octets.
+/// The vectors of N octets, in blocks of sixteen.
 pub(crate) trait Lanes<const N: usize> {
-    /// They have one block or two.
+    /// There are one or two blocks.
     ghost few: { N ≤ 32 };
 
     /// The entry for each lane. It is 0 for a lane of 128 or more.
@@ -18,12 +18,12 @@ pub(crate) trait Lanes<const N: usize> {
         requires { (i : ℕ) → AreInTable (block places i) }
         ensures { result ≡ map (entry table) places.entry };
 
-    /// The octets of each block in another order: those of these places.
+    /// The octets of each block in another order, by the places that they have in it.
     fn reordered(x: Simd<u8, N>, places: [u8; 16]) -> Simd<u8, N>
         requires { all_below 16 places ≡ true }
         ensures { (i : ℕ) → 16 * i + 16 ≤ N → block result i ≡ pick_l 0 (block x.entry i) places };
 
-    /// This block, as often as there is room.
+    /// A vector whose blocks are all this one.
     fn repeated(b: u8x16) -> Simd<u8, N>
         ensures { (i : ℕ) → 16 * i + 16 ≤ N → block result i ≡ b };
 }
@@ -48,9 +48,7 @@ impl Lanes<16> for u8x16 {
     }
 
     #[inline(always)]
-    fn repeated(b: u8x16) -> u8x16
-        ensures { (i : ℕ) → 16 * i + 16 ≤ 16 → block result i ≡ b }
-    {
+    fn repeated(b: u8x16) -> u8x16 {
         b
     }
 }
@@ -75,14 +73,12 @@ impl Lanes<32> for u8x32 {
     }
 
     #[inline(always)]
-    fn repeated(b: u8x16) -> u8x32
-        ensures { (i : ℕ) → 16 * i + 16 ≤ 32 → block result i ≡ b }
-    {
+    fn repeated(b: u8x16) -> u8x32 {
         twice(b)
     }
 }
 
-/// A block, and once more.
+/// Two blocks that are both this one.
 #[inline(always)]
 fn twice(b: u8x16) -> u8x32
     ensures { (i : ℕ) → i < 2 → block result i ≡ b }

@@ -1,6 +1,6 @@
-//! The S-box, its inverse and products, on sixteen octets at once: look-ups of half octets in registers, and sums. No address and no branch
-//! depends on an octet where `swizzle_dyn` is one instruction: on x86-64-v2 (`pshufb`) and on ARM64 (`tbl`). A program for an older x86-64
-//! is slow, and loads from addresses that depend on the key.
+//! The S-box, its inverse and products, on all octets of a vector at once: look-ups of half octets in registers, and sums. No address and no
+//! branch depends on an octet where a register is looked up in by one instruction: on x86-64-v2 and later (`pshufb`) and on ARM64 (`tbl`). A
+//! program for an older x86-64 is slow, and loads from addresses that depend on the key.
 //!
 //! A basis says which sums of elements of the field the eight bits of an octet stand for. FIPS 197 takes the powers of x. Between the rounds
 //! the code keeps the octets in another basis, in which their halves are coordinates over the subfield of sixteen elements. All tables follow
