@@ -10,7 +10,7 @@ use std::simd::{Simd, u8x16, u8x32};
 
 /// The vectors of N octets, in blocks of sixteen.
 pub(crate) trait Lanes<const N: usize> {
-    /// There are one or two blocks.
+    /// There are at most two blocks.
     ghost few: { N ≤ 32 };
 
     /// The entry for each lane. It is 0 for a lane of 128 or more.
