@@ -12,7 +12,7 @@
 //! takes two look-ups, in any basis. The look-up of 1/0 gives 128, which stays at least 128 when something is added, and a look-up there
 //! gives 0 (M. Hamburg, Accelerating AES with vector permute instructions).
 ghost use Rattle.std.specs.Prelude.{◌≡◌, map};
-ghost use Rattle.aes.specs.Code.LookUps.{AreInTable, entry, low_of, high_of, sum_of, with_i_of, with_j_of, p_of, q_of, from_halves, from_inverse};
+ghost use Rattle.aes.specs.Code.LookUps.{low_of, high_of, sum_of, with_i_of, with_j_of, p_of, q_of, from_halves, from_inverse};
 
 use crate::lanes::Lanes;
 use crate::tables::{INVERSE, Pair, QUOTIENT};
