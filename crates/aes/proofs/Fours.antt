@@ -1,7 +1,6 @@
 -- Functions of each of four blocks.
-use Rattle.std.proofs.Common.{◌≡◌, ℕ, List, [], ◌∷◌, length, map, slice_index_or, sym, ap, ap₂, ◌∙◌, arith}
-use Rattle.std.proofs.Math.Path.{fun_ext}
-use Rattle.std.proofs.lemmas.Simd.{map-map}
+use Rattle.std.proofs.Common.{◌≡◌, ℕ, zero, suc, ◌+◌, ◌*◌, ◌≤◌, List, [], ◌∷◌, length, map, slice_index_or, ap, ap₂, arith}
+use Rattle.aes.specs.Code.Blocks.{block}
 
 pub four : (g : List ℕ → List ℕ) (xs : List (List ℕ)) (p q s t : List ℕ) → length xs ≡ 4
     → p ≡ g (slice_index_or xs 0 []) → q ≡ g (slice_index_or xs 1 []) → s ≡ g (slice_index_or xs 2 []) → t ≡ g (slice_index_or xs 3 [])
@@ -13,10 +12,8 @@ four g (a ∷ b ∷ []) p q s t h ep eq es et = absurd (omega (arith, h))
 four g (a ∷ b ∷ c ∷ []) p q s t h ep eq es et = absurd (omega (arith, h))
 four g (a ∷ b ∷ c ∷ d ∷ e ∷ xs) p q s t h ep eq es et = absurd (omega (arith, h))
 
-pub each_same : (f g : List ℕ → List ℕ) (xs : List (List ℕ)) → ((x : List ℕ) → f x ≡ g x) → map f xs ≡ map g xs
-each_same f g xs h = ap (λ k. map k xs) (fun_ext h)
-
--- A step g of the states p, in which h of the blocks is kept, gives k of the blocks.
-pub each_step : (p g h k : List ℕ → List ℕ) (states blocks : List (List ℕ)) → map p states ≡ map h blocks → ((b : List ℕ) → g (h b) ≡ k b)
-    → map (λ s. g (p s)) states ≡ map k blocks
-each_step p g h k states blocks e step = sym (map-map g p states) ∙ ap (map g) e ∙ map-map g h blocks ∙ each_same (λ b. g (h b)) k blocks step
+-- the blocks of a vector of two
+pub two : (b : ℕ → List ℕ) (v : List ℕ) → block v 0 ≡ b 0 → block v 1 ≡ b 1 → (i : ℕ) → 16 * i + 16 ≤ 32 → block v i ≡ b i
+two b v first second zero h = first
+two b v first second (suc zero) h = second
+two b v first second (suc (suc i)) h = absurd (omega (arith, h))

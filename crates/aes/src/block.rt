@@ -21,7 +21,7 @@ pub trait Block: Drop {
     fn decrypt(&self, b: &[u8; 16]) -> [u8; 16]
         ensures { result ≡ decrypted self.now b.now };
 
-    /// Encrypts each of four blocks. A cipher that is faster with four blocks in turn has a body of its own.
+    /// Encrypts each of four blocks. A cipher that is faster with four blocks at once has a body of its own.
     fn encrypt_4(&self, blocks: &[[u8; 16]; 4]) -> [[u8; 16]; 4]
         ensures { result ≡ map (encrypted self.now) blocks.now }
     {
@@ -34,7 +34,7 @@ pub trait Block: Drop {
         ]
     }
 
-    /// Decrypts each of four blocks. A cipher that is faster with four blocks in turn has a body of its own.
+    /// Decrypts each of four blocks. A cipher that is faster with four blocks at once has a body of its own.
     fn decrypt_4(&self, blocks: &[[u8; 16]; 4]) -> [[u8; 16]; 4]
         ensures { result ≡ map (decrypted self.now) blocks.now }
     {

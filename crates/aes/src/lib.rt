@@ -21,6 +21,7 @@ mod cipher;
 mod four_blocks;
 mod inverse_state;
 mod key_expansion;
+mod lanes;
 pub mod laws;
 mod lookups;
 mod state;

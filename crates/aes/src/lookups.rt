@@ -1,6 +1,6 @@
-//! The S-box, its inverse and products, on sixteen octets at once: look-ups of half octets in registers, and sums. No address and no branch
-//! depends on an octet where `swizzle_dyn` is one instruction: on x86-64-v2 (`pshufb`) and on ARM64 (`tbl`). A program for an older x86-64
-//! is slow, and loads from addresses that depend on the key.
+//! The S-box, its inverse and products, on all octets of a vector at once: look-ups of half octets in registers, and sums. No address and no
+//! branch depends on an octet where a register is looked up in by one instruction: on x86-64-v2 and later (`pshufb`) and on ARM64 (`tbl`). A
+//! program for an older x86-64 is slow, and loads from addresses that depend on the key.
 //!
 //! A basis says which sums of elements of the field the eight bits of an octet stand for. FIPS 197 takes the powers of x. Between the rounds
 //! the code keeps the octets in another basis, in which their halves are coordinates over the subfield of sixteen elements. All tables follow
@@ -12,88 +12,92 @@
 //! takes two look-ups, in any basis. The look-up of 1/0 gives 128, which stays at least 128 when something is added, and a look-up there
 //! gives 0 (M. Hamburg, Accelerating AES with vector permute instructions).
 ghost use Rattle.std.specs.Prelude.{◌≡◌, map};
-ghost use Rattle.aes.specs.Code.LookUps.{AreInTable, entry, low_of, high_of, sum_of, with_i_of, with_j_of, p_of, q_of, from_halves, from_inverse};
+ghost use Rattle.aes.specs.Code.LookUps.{low_of, high_of, sum_of, with_i_of, with_j_of, p_of, q_of, from_halves, from_inverse};
 
+use crate::lanes::Lanes;
 use crate::tables::{INVERSE, Pair, QUOTIENT};
-use std::simd::u8x16;
-
-/// The entry for each lane. It is 0 for a lane of 128 or more.
-#[inline(always)]
-fn look_up(table: [u8; 16], places: u8x16) -> u8x16
-    requires { AreInTable places }
-    ensures { result ≡ map (entry table) places }
-{
-    u8x16::from_array(table).swizzle_dyn(places)
-}
+use std::simd::Simd;
 
 /// The lower half of each octet: k.
 #[inline(always)]
-fn low(x: u8x16) -> u8x16
-    ensures { result ≡ map low_of x }
+fn low<const N: usize>(x: Simd<u8, N>) -> Simd<u8, N>
+    ensures { result ≡ map low_of x.entry }
 {
-    x & u8x16::splat(15)
+    x & Simd::splat(15)
 }
 
 /// The upper half of each octet: i.
 #[inline(always)]
-fn high(x: u8x16) -> u8x16
-    ensures { result ≡ map high_of x }
+fn high<const N: usize>(x: Simd<u8, N>) -> Simd<u8, N>
+    ensures { result ≡ map high_of x.entry }
 {
-    x >> u8x16::splat(4)
+    x >> Simd::splat(4)
 }
 
 /// The sum of both halves: j.
 #[inline(always)]
-fn sum(x: u8x16) -> u8x16
-    ensures { result ≡ map sum_of x }
+fn sum<const N: usize>(x: Simd<u8, N>) -> Simd<u8, N>
+    ensures { result ≡ map sum_of x.entry }
 {
     high(x) ^ low(x)
 }
 
 /// 1/i + 1/(n k).
 #[inline(always)]
-fn with_i(x: u8x16) -> u8x16
-    ensures { result ≡ map with_i_of x }
+fn with_i<const N: usize>(x: Simd<u8, N>) -> Simd<u8, N>
+where
+    Simd<u8, N>: Lanes<N>,
+    ensures { result ≡ map with_i_of x.entry }
 {
-    look_up(QUOTIENT, low(x)) ^ look_up(INVERSE, high(x))
+    Simd::<u8, N>::look_up(QUOTIENT, low(x)) ^ Simd::<u8, N>::look_up(INVERSE, high(x))
 }
 
 /// 1/j + 1/(n k).
 #[inline(always)]
-fn with_j(x: u8x16) -> u8x16
-    ensures { result ≡ map with_j_of x }
+fn with_j<const N: usize>(x: Simd<u8, N>) -> Simd<u8, N>
+where
+    Simd<u8, N>: Lanes<N>,
+    ensures { result ≡ map with_j_of x.entry }
 {
-    look_up(QUOTIENT, low(x)) ^ look_up(INVERSE, sum(x))
+    Simd::<u8, N>::look_up(QUOTIENT, low(x)) ^ Simd::<u8, N>::look_up(INVERSE, sum(x))
 }
 
 /// p: j + 1/(1/i + 1/(n k)).
 #[inline(always)]
-fn p(x: u8x16) -> u8x16
-    ensures { result ≡ map p_of x }
+fn p<const N: usize>(x: Simd<u8, N>) -> Simd<u8, N>
+where
+    Simd<u8, N>: Lanes<N>,
+    ensures { result ≡ map p_of x.entry }
 {
-    look_up(INVERSE, with_i(x)) ^ sum(x)
+    Simd::<u8, N>::look_up(INVERSE, with_i(x)) ^ sum(x)
 }
 
 /// q: i + 1/(1/j + 1/(n k)).
 #[inline(always)]
-fn q(x: u8x16) -> u8x16
-    ensures { result ≡ map q_of x }
+fn q<const N: usize>(x: Simd<u8, N>) -> Simd<u8, N>
+where
+    Simd<u8, N>: Lanes<N>,
+    ensures { result ≡ map q_of x.entry }
 {
-    look_up(INVERSE, with_j(x)) ^ high(x)
+    Simd::<u8, N>::look_up(INVERSE, with_j(x)) ^ high(x)
 }
 
 /// A linear function of each octet, but for a constant.
 #[inline(always)]
-pub(crate) fn from_halves(tables: Pair, x: u8x16) -> u8x16
-    ensures { result ≡ map (from_halves tables) x }
+pub(crate) fn from_halves<const N: usize>(tables: Pair, x: Simd<u8, N>) -> Simd<u8, N>
+where
+    Simd<u8, N>: Lanes<N>,
+    ensures { result ≡ map (from_halves tables) x.entry }
 {
-    look_up(tables[0], low(x)) ^ look_up(tables[1], high(x))
+    Simd::<u8, N>::look_up(tables[0], low(x)) ^ Simd::<u8, N>::look_up(tables[1], high(x))
 }
 
 /// A linear function of the inverse of each octet, where the octet is kept.
 #[inline(always)]
-pub(crate) fn from_inverse(tables: Pair, x: u8x16) -> u8x16
-    ensures { result ≡ map (from_inverse tables) x }
+pub(crate) fn from_inverse<const N: usize>(tables: Pair, x: Simd<u8, N>) -> Simd<u8, N>
+where
+    Simd<u8, N>: Lanes<N>,
+    ensures { result ≡ map (from_inverse tables) x.entry }
 {
-    look_up(tables[0], p(x)) ^ look_up(tables[1], q(x))
+    Simd::<u8, N>::look_up(tables[0], p(x)) ^ Simd::<u8, N>::look_up(tables[1], q(x))
 }

@@ -3,4 +3,4 @@ use Rattle.std.proofs.lemmas.Simd.{zip2_splat}
 use Rattle.aes.proofs.lookups.low.Goals as goal
 
 pub returns : goal.returns
-returns c = zip2_splat bit_and c.args.x 16 15 c.fits-x.0
+returns g c = zip2_splat bit_and c.args.x g.row.N 15 c.fits-x.0

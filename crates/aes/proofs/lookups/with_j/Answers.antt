@@ -1,17 +1,17 @@
-use Rattle.std.proofs.Common.{bit_xor}
+use Rattle.std.proofs.Common.{bit_xor, arith}
 use Rattle.std.proofs.lemmas.Simd.{zip2_of_maps}
 use Rattle.aes.specs.Code.LookUps.{with_j_of, low_of, sum_of}
 use Rattle.aes.proofs.Places.{are_places, looked, low_in, sum_in}
 use Rattle.aes.proofs.lookups.with_j.Goals as goal
 
 pub look_up-requires : goal.look_up-requires
-look_up-requires c = are_places low_of low_in c.args.x c.low.result c.fits-x.0 c.fits-x.1 c.low.ensures
+look_up-requires g c = (omega arith, are_places low_of low_in c.args.x c.low.result c.fits-x.1 c.low.ensures)
 
 pub look_up-requires-2 : goal.look_up-requires-2
-look_up-requires-2 c = are_places sum_of sum_in c.args.x c.sum.result c.fits-x.0 c.fits-x.1 c.sum.ensures
+look_up-requires-2 g c = (omega arith, are_places sum_of sum_in c.args.x c.sum.result c.fits-x.1 c.sum.ensures)
 
 pub returns : goal.returns
 unfolding with_j_of
-returns c = zip2_of_maps bit_xor _ _ c.args.x
+returns g c = zip2_of_maps bit_xor _ _ c.args.x
     (looked _ low_of c.args.x c.low.result c.look_up.result c.low.ensures c.look_up.ensures)
     (looked _ sum_of c.args.x c.sum.result c.look_up-2.result c.sum.ensures c.look_up-2.ensures)

@@ -3,4 +3,4 @@ use Rattle.aes.specs.State.{shift_rows}
 use Rattle.aes.proofs.state.sub_shift.Goals as goal
 
 pub returns : goal.returns
-returns c = c.shifted.ensures ∙ ap shift_rows c.sub.ensures
+returns g c i h = c.shifted.ensures i h ∙ ap shift_rows (c.sub.ensures i h)
