@@ -156,6 +156,12 @@ class Case(unittest.TestCase):
         self.assertEqual((caught.exception.number, caught.exception.name), (number, name))
         self.assertEqual(str(caught.exception), f"{number} {name}")
 
+    def blames(self, parent, number, function, *arguments, **options):
+        with self.assertRaises(Refused) as caught:
+            function(*arguments, **options)
+        self.assertEqual(caught.exception.number, number, (function.__name__, arguments))
+        self.assertIsInstance(caught.exception, parent, (function.__name__, arguments))
+
 
 class Standards(Case):
     def test_rfc7515_appendix_a1_verifies(self):
@@ -450,12 +456,6 @@ class Judged(Case):
             (token_of(FIRST, '{"alg":"none"}', b"hi"), 12), (token_of(FIRST, '{"alg":"RS256"}', b"hi"), 12), (json.dumps(many), 15),
             (token_of(SECOND, '{"alg":"HS256"}', b"hi"), 17),
         ]
-
-    def blames(self, parent, number, function, *arguments, **options):
-        with self.assertRaises(Refused) as caught:
-            function(*arguments, **options)
-        self.assertEqual(caught.exception.number, number, (function.__name__, arguments))
-        self.assertIsInstance(caught.exception, parent, (function.__name__, arguments))
 
     def test_keys_of_each_source(self):
         text = json.dumps(self.ONE, separators=(",", ":"))
