@@ -168,7 +168,7 @@ enum lakhdzeva_status lakhdzeva_verify_detached(const void *keys, size_t keys_le
 
 /* Verifies the object, and gives its payload and which key verified it: the place in the set, from 0, of the first key that made a signature,
    or 0 for a key that is alone. It is for a service whose keys belong to different parties. A bad key is refused as by lakhdzeva_sign, so the
-   place counts every member of `keys`. Whatever is refused, the place of the signer is 0.
+   place counts every member of `keys`. Unless the result is 0 or 1, the place of the signer is 0.
    - Nobody but the owner of a key may know it: whoever has the octets of a key can sign as its owner.
    - An object in JSON form can have signatures of several keys. This names the first key of the set that made one, and no other.
    The rest is as for lakhdzeva_verify. */
