@@ -176,6 +176,46 @@ def check_lengths():
     check("docs/SERVICES.md shows the function of claims.py", [] if shown in page else ["it shows another one"])
 
 
+# ---- pages
+
+# Where the code of a page comes from, by the language of its block: files that are built and run. Python's runs as it is.
+BLOCKS = {
+    "go": ["examples/go/token-service/*.go", "bindings/go/example_test.go"], "rust": ["examples/rust/token-service/src/*.rs", "bindings/rust/examples/*.rs"],
+    "c": ["examples/c/*.c"], "js": ["examples/node/*.js"]}
+
+
+def blocks_of(page):
+    """The blocks of code of a page, each with its language."""
+    return re.findall(r"^```(\w+)\n(.*?)^```$", (TOP / page).read_text(), re.M | re.S)
+
+
+def check_blocks():
+    """Checks that the pages show code of the examples, as it is there."""
+    for page in "README.md", "docs/SERVICES.md", "docs/C.md":
+        missing = []
+        for language, block in blocks_of(page):
+            sources = [path.read_text() for pattern in BLOCKS.get(language, []) for path in TOP.glob(pattern)]
+            missing += [block.strip().split("\n")[0]] * (language != "python" and not any(block in it for it in sources))
+        check(f"{page}: its code is that of the examples", missing)
+
+
+def try_blocks(environment):
+    """Runs the Python of each page as one program, with a valid and with a forged token. If the page ends at an error, it does so for the forged one."""
+    for page in "README.md", "docs/SERVICES.md", "docs/C.md":
+        program = "".join(block for language, block in blocks_of(page) if language == "python")
+        ends = "raise SystemExit(f" in program
+        with tempfile.TemporaryDirectory() as folder:
+            for name in "sign.jwk", "service.jwk":
+                (pathlib.Path(folder) / name).write_bytes(RFC7515_KEY)
+            good = token(claims_now())
+            for received, wanted in (good, 0), (good[:-4] + "AAAA", 1):
+                head = f"import lakhdzeva\nsecret, token, signature, body = {'6a' * 32!r}, {received.encode()!r}, b'', b''\n"
+                if wanted and not ends:
+                    continue
+                status, printed = run(sys.executable, "-c", head + program, cwd=folder, env=environment)
+                check(f"{page}: its Python with {'a forged' if wanted else 'a valid'} token", [] if status == wanted and "Traceback" not in printed else [f"status {status}, {printed[-500:]}"])
+
+
 # ---- services
 
 
@@ -387,6 +427,8 @@ def try_all(environment, builds):
     """Tries the judge and the service of each language."""
     resource.setrlimit(resource.RLIMIT_NOFILE, (min(8192, resource.getrlimit(resource.RLIMIT_NOFILE)[1]), resource.getrlimit(resource.RLIMIT_NOFILE)[1]))
     check_lengths()
+    check_blocks()
+    try_blocks(environment)
     try_pyjwt()
     for built in [*in_python(environment), *(it for build in builds for it in build.result())]:
         with tempfile.TemporaryDirectory() as folder:
