@@ -8,11 +8,11 @@ import (
 	"strings"
 )
 
-// Keys is one key or a set of keys that was judged when it was read: in each error of its methods that is not a Fault, the token is at fault,
+// Keys is one key or a set of keys that was checked when it was read: in each error of its methods that is not a Fault, the token is at fault,
 // or what is signed or encrypted. Any number of goroutines may use it at once.
 //
 // A service asks two things when it starts:
-//   - Bad keys of a set are passed over. Len is the number of the good ones: compare it with the number that you expect. Uses says which are
+//   - Invalid keys of a set are skipped. Len is the number of the valid ones: compare it with the number that you expect. Uses says which are
 //     bad, and what each of the others may do.
 //   - CanSign, CanVerify, CanEncrypt and CanDecrypt say whether one of them may. To sign and to encrypt, all of them must.
 //
@@ -55,8 +55,8 @@ func ReadKeys(name string) (*Keys, error) {
 	return keys, nil
 }
 
-// KeysFromSecret makes a key from the octets of a secret that both sides share, for one algorithm, such as "HS256". A secret that is too short
-// for the algorithm is refused with ErrKeyDoesNotFit: HS256 needs 32 octets (RFC 7518, section 3.2).
+// KeysFromSecret makes a key from the bytes of a secret that both sides share, for one algorithm, such as "HS256". A secret that is too short
+// for the algorithm is refused with ErrKeyDoesNotFit: HS256 needs 32 bytes (RFC 7518, section 3.2).
 func KeysFromSecret(secret []byte, alg string) (*Keys, error) {
 	text, err := json.Marshal(map[string]string{"kty": "oct", "alg": alg, "k": base64.RawURLEncoding.EncodeToString(secret)})
 	if err != nil {
@@ -78,7 +78,7 @@ func (keys *Keys) Len() int {
 	return len(keys.thumbprints)
 }
 
-// Uses returns what each member of the text may do, in order, with the bad ones.
+// Uses returns what each member of the text may do, in order, with the invalid ones.
 func (keys *Keys) Uses() []KeyUses {
 	return append([]KeyUses(nil), keys.uses...)
 }

@@ -1,7 +1,7 @@
 // Package lakhdzeva signs and verifies (JWS, RFC 7515), encrypts and decrypts (JWE, RFC 7516), makes keys (JWK, RFC 7517) and computes
 // their thumbprints (RFC 7638), with octet keys. It calls the proved library lakhdzeva by cgo, which makes all decisions.
 //
-// A service reads its keys once, when it starts, as [Keys]: they are judged then, so that a later error is about the token. Each function here
+// A service reads its keys once, when it starts, as [Keys]: they are checked then, so that a later error is about the token. Each function here
 // takes the JSON text of keys instead, and reads it again at each call.
 //
 // pkg-config says where the header and the library are. With the build tag lakhdzeva_flags, CGO_CFLAGS and CGO_LDFLAGS say it instead.
@@ -21,10 +21,10 @@
 //   - If a name is repeated in a JSON object, the last one counts.
 //   - An object takes at most 8 times its length in memory, and JSON of many small objects 270 times. So limit the length of a stranger's
 //     text.
-//   - The library wipes the memory that it used. Your own is not wiped: slices, and those of answers.
+//   - The library wipes the memory that it used. Your own is not wiped: slices, and those of results.
 //   - The timing of reading a key's text depends on the key.
 //
-// What the caller owes:
+// What you must guarantee:
 //   - No other goroutine may change an argument during a call.
 //   - No C code of yours may jump out of a call (siglongjmp in a signal handler) or cancel its thread: the heap would be broken. Nothing
 //     ends a call before it returns, and no context does. To bound its time, limit the lengths and the iterations that you pass, or call in
@@ -41,7 +41,7 @@ import (
 	"unsafe"
 )
 
-// Refusal is the error of a call that has no answer. Its number is stable. Ask for one with errors.Is(err, ErrNotOpened).
+// Refusal is the error of a call without a result. Its number is stable. Ask for one with errors.Is(err, ErrNotOpened).
 type Refusal uint32
 
 // The refusals. The comments of enum lakhdzeva_status in lakhdzeva.h say when each occurs.
@@ -71,7 +71,7 @@ func (refusal Refusal) Error() string {
 }
 
 // Fault says whether the refusal is about this machine or the keys, and not about a token: a service answers 500, and not 401. It is right for
-// each error of a Keys, which were judged before. Of a function that reads a text of keys, other refusals can be about the keys too.
+// each error of a Keys, which were checked before. Of a function that reads a text of keys, other refusals can be about the keys too.
 func (refusal Refusal) Fault() bool {
 	return refusal <= ErrRandom || refusal == ErrKey || refusal == ErrNoAlgorithm || refusal > ErrNotOpened
 }
@@ -110,11 +110,11 @@ const (
 	SHA512 Hash = 512
 )
 
-// nothing is the octet that the pointer of an empty text points to. Nobody reads or writes it.
+// nothing is the byte that the pointer of an empty text points to. Nobody reads or writes it.
 var nothing [1]byte
 
-// some returns the octets, or one octet if there are none, so that the first one has an address. The length is always that of the octets
-// themselves. Each call of C takes its pointers as unsafe.Pointer(&some(octets)[0]): cgo then keeps the octets in their place until the
+// some returns the bytes, or one byte if there are none, so that the first one has an address. The length is always that of the bytes
+// themselves. Each call of C takes its pointers as unsafe.Pointer(&some(octets)[0]): cgo then keeps the bytes where they are until the
 // call returns, and checks only them for pointers, not what is next to them in memory.
 func some(octets []byte) []byte {
 	if len(octets) == 0 {
@@ -252,9 +252,9 @@ func sign(keys, template []byte, form Form, detach C.uint, payload []byte) ([]by
 }
 
 // Verify verifies the object, and returns its payload.
-//   - With All each good key must have made a signature. It passes over bad keys, and takes one signature for two keys that sign alike. So
+//   - With All each valid key must have made a signature. It skips invalid keys, and takes one signature for two keys that sign alike. So
 //     for a rule such as "Ann and Bob must both sign" call VerifyAll.
-//   - It judges no claims, such as `exp` of a JWT.
+//   - It checks no claims, such as `exp` of a JWT.
 //   - An old object verifies too, so put a number or a date into what you sign.
 //   - One token has many texts: to revoke it, list an id in its payload, and not its text.
 //   - In JSON form a header can be unsigned, or belong to a signature that none of your keys made: if a header matters, accept only compact
@@ -279,9 +279,9 @@ func VerifyDetached(keys, object []byte, signers Signers, payload []byte) error 
 		unsafe.Pointer(&some(payload)[0]), size(payload))))
 }
 
-// VerifySigner verifies the object, and returns its payload and the place in the set, from 0, of the first key that made a signature. It is for
-// a service whose keys belong to different parties. A bad key is refused as by Sign, so the place counts every key of the set.
-//   - Nobody but the owner of a key may know it: whoever has the octets of a key can sign as its owner.
+// VerifySigner verifies the object, and returns its payload and the position in the set, from 0, of the first key that made a signature. It is for
+// a service whose keys belong to different parties. An invalid key is refused as by Sign, so the position counts every key of the set.
+//   - Nobody but the owner of a key may know it: whoever has the bytes of a key can sign as its owner.
 //   - An object in JSON form can have signatures of several keys. This names the first key of the set that made one, and no other.
 //
 // The rest is as for Verify.
@@ -297,7 +297,7 @@ func VerifySigner(keys, object []byte) (payload []byte, signer int, err error) {
 }
 
 // VerifyAll verifies that each key of the set signed the object, and returns its payload. The text has exactly so many keys as there are
-// signers. It is for rules about people, such as "Ann and Bob must both sign". A bad key is refused as by Sign. Another number of keys is
+// signers. It is for rules about people, such as "Ann and Bob must both sign". An invalid key is refused as by Sign. Another number of keys is
 // refused with ErrKey, and so are two keys that sign alike: HMAC fills a short key with zeros and hashes a long one (RFC 2104), so keys that
 // differ can make the same signatures. It is ErrNotOpened unless each key made a signature.
 //   - Use one call for one rule: two calls with two sets both succeed by one signature, if its key is in both sets.
@@ -327,7 +327,7 @@ func VerifyAllDetached(keys []byte, signers int, object, payload []byte) error {
 // Encrypt encrypts the plaintext to each of the keys, and returns the object.
 //   - The recipients share its random key, so each of them can put another plaintext into the object.
 //   - When a host leaves, make a new key for each recipient that stays.
-//   - Without an `alg`, a password of 16, 24 or 32 octets is used as a key itself, without iterations.
+//   - Without an `alg`, a password of 16, 24 or 32 bytes is used as a key itself, without iterations.
 //   - A password takes 100,000 iterations, or `p2c` of the template: name 600,000 there for one password.
 //   - Use a key for at most 2^32 objects with AES-GCM key wrap, or with `dir` and a GCM.
 //   - In the template `unprotected` is a header that is not authenticated, and `aad` is a text that everyone can read.
@@ -368,7 +368,7 @@ func encrypt(keys, template []byte, form Form, detach C.uint, plaintext []byte) 
 //   - A password may have any length, so every key without `alg` fits, and an object for a password is refused with ErrLimit.
 //   - The recipients share its random key, so each of them can put another plaintext into the object.
 //   - A malicious writer can make an object that opens to two plaintexts for two recipients.
-//   - It notices a changed `aad`, but does not judge its text.
+//   - It notices a changed `aad`, but does not check its text.
 //   - Each pair of a recipient and a key that fits can cost a pass over the ciphertext, at most 256 times 64. An attacker without a key can
 //     cause many of them: limit the length of strangers' objects.
 func Decrypt(keys, object, ciphertext []byte) ([]byte, error) {
@@ -403,7 +403,7 @@ func DecryptWithIterations(keys, object, ciphertext []byte, iterations uint64) (
 }
 
 // FormatSigned writes a signed object in this form (RFC 7515, section 7). It sees no key and verifies nothing. Unknown members are left out. The
-// payload is nil if it is in the object. A payload that is handed in becomes part of the object.
+// payload is nil if it is in the object. A payload that you pass becomes part of the object.
 func FormatSigned(object, payload []byte, form Form) ([]byte, error) {
 	text, _, err := format(signedObject, object, payload, form, 0)
 	return text, err
@@ -416,7 +416,7 @@ func FormatSignedDetached(object, payload []byte, form Form) (text, detached []b
 }
 
 // FormatEncrypted writes an encrypted object in this form (RFC 7516, section 7). It sees no key and decrypts nothing. Unknown members are left
-// out. The ciphertext is nil if it is in the object. A ciphertext that is handed in becomes part of the object.
+// out. The ciphertext is nil if it is in the object. A ciphertext that you pass becomes part of the object.
 func FormatEncrypted(object, ciphertext []byte, form Form) ([]byte, error) {
 	text, _, err := format(encryptedObject, object, ciphertext, form, 0)
 	return text, err

@@ -6,8 +6,8 @@ use std::fmt;
 /// So a refusal of its methods is about the token, or about what is signed or encrypted, unless it [is a fault](Refusal::is_fault) of the machine.
 /// A service asks two things when it starts:
 ///
-/// - Bad keys of a set are passed over. [`len`](Keys::len) is the number of the good ones: compare it with the number that you expect.
-///   [`uses`](Keys::uses) says which are bad, and what each of the others may do.
+/// - Invalid keys of a set are skipped. [`len`](Keys::len) is the number of the valid ones: compare it with the number that you expect.
+///   [`uses`](Keys::uses) says which are invalid, and what each of the others may do.
 /// - [`can_sign`](Keys::can_sign), [`can_verify`](Keys::can_verify), [`can_encrypt`](Keys::can_encrypt) and
 ///   [`can_decrypt`](Keys::can_decrypt) say whether one of them may. To sign and to encrypt, all of them must.
 ///
@@ -30,7 +30,7 @@ pub struct Keys {
     thumbprints: Vec<String>,
 }
 
-/// Whether a member of a text of keys is a good key, and what it may do by some algorithm.
+/// Whether a member of a text of keys is a valid key, and what it may do by some algorithm.
 #[derive(Clone, Copy, Debug, PartialEq, Eq)]
 #[allow(clippy::struct_excessive_bools)]
 pub struct KeyUses {
@@ -60,7 +60,7 @@ impl KeyUses {
 }
 
 impl Keys {
-    /// Reads the JSON text of a key or of a set. A text without a good key is refused.
+    /// Reads the JSON text of a key or of a set. A text without a valid key is refused.
     pub fn new(text: &[u8]) -> Result<Keys, Refusal> {
         let uses = crate::judge_keys(text)?;
         let lines = crate::thumbprints(text, Hash::Sha256)?;
@@ -71,9 +71,9 @@ impl Keys {
         })
     }
 
-    /// Makes a key from the octets of a secret that both sides share, for one algorithm, such as `HS256`.
+    /// Makes a key from the bytes of a secret that both sides share, for one algorithm, such as `HS256`.
     ///
-    /// A secret that is too short for the algorithm is [`KeyDoesNotFit`](Refusal::KeyDoesNotFit): `HS256` needs 32 octets (RFC 7518 section 3.2).
+    /// A secret that is too short for the algorithm is [`KeyDoesNotFit`](Refusal::KeyDoesNotFit): `HS256` needs 32 bytes (RFC 7518 section 3.2).
     /// An `alg` that is no name of an algorithm is [`Unsupported`](Refusal::Unsupported).
     pub fn from_secret(secret: &[u8], alg: &str) -> Result<Keys, Refusal> {
         let known = |octet: u8| octet.is_ascii_alphanumeric() || octet == b'-' || octet == b'+';
@@ -90,14 +90,14 @@ impl Keys {
         }
     }
 
-    /// The number of good keys, which is not 0.
+    /// The number of valid keys, which is not 0.
     #[must_use]
     #[allow(clippy::len_without_is_empty)]
     pub fn len(&self) -> usize {
         self.thumbprints.len()
     }
 
-    /// What each member of the text may do, in order, with the bad ones.
+    /// What each member of the text may do, in order, with the invalid ones.
     #[must_use]
     pub fn uses(&self) -> &[KeyUses] {
         &self.uses
@@ -127,7 +127,7 @@ impl Keys {
         self.uses.iter().any(|uses| uses.decrypt)
     }
 
-    /// The thumbprints of the good keys by SHA-256 (RFC 7638), in their order. That of a password is not safe to publish: it lets anyone test
+    /// The thumbprints of the valid keys by SHA-256 (RFC 7638), in their order. That of a password is not safe to publish: it lets anyone test
     /// guesses.
     #[must_use]
     pub fn thumbprints(&self) -> &[String] {
@@ -228,7 +228,7 @@ impl fmt::Debug for Keys {
     }
 }
 
-/// The base64url text of these octets, without padding (RFC 4648 section 5).
+/// The base64url text of these bytes, without padding (RFC 4648 section 5).
 fn base64url(octets: &[u8]) -> String {
     const DIGITS: &[u8; 64] = b"ABCDEFGHIJKLMNOPQRSTUVWXYZabcdefghijklmnopqrstuvwxyz0123456789-_";
     let mut text = String::new();

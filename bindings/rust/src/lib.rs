@@ -1,7 +1,7 @@
 //! Sign and verify (JWS, RFC 7515), encrypt and decrypt (JWE, RFC 7516), make keys (JWK, RFC 7517) and compute their thumbprints
 //! (RFC 7638), with octet keys.
 //!
-//! The work is done by the library lakhdzeva, which is proved. This crate passes octets to it, and decides nothing.
+//! The work is done by the library lakhdzeva, which is proved. This crate passes bytes to it, and decides nothing.
 //!
 //! ```
 //! use lakhdzeva::{Form, Keys, Refusal};
@@ -34,10 +34,10 @@
 //! - If a name is repeated in a JSON object, the last one counts.
 //! - An object takes at most 8 times its length in memory, and JSON of many small objects 270 times. So limit the length of a stranger's
 //!   text.
-//! - The library wipes the memory that it used. Your own is not wiped: slices, and the vectors of answers.
+//! - The library wipes the memory that it used. Your own is not wiped: slices, and the vectors of results.
 //! - The timing of reading a key's text depends on the key.
 //!
-//! # What the caller owes
+//! # What you must guarantee
 //!
 //! - A call needs 256 KiB of stack. Any number of threads may call at once.
 //! - Do not call from a signal handler. After a fork of a process with threads, do not call in the child.
@@ -62,7 +62,7 @@ pub fn version() -> &'static str {
 
 /// What the library wrote, which is JSON or a compact text.
 fn text(octets: Vec<u8>) -> String {
-    // A message of `expect` would show the octets.
+    // A message of `expect` would show the bytes.
     String::from_utf8(octets).unwrap_or_else(|_| panic!("the library writes UTF-8"))
 }
 
@@ -131,7 +131,7 @@ impl Hash {
 
 /// Makes a random key as the template asks, and returns its JSON text (RFC 7517 section 4, RFC 7518 section 6.4).
 ///
-/// The template names the algorithm (`alg`), or the length in octets (`bytes`), or both. Its other members are copied.
+/// The template names the algorithm (`alg`), or the length in bytes (`bytes`), or both. Its other members are copied.
 ///
 /// Refusals: [`Json`](Refusal::Json), [`Number`](Refusal::Number), [`Key`](Refusal::Key), [`Limit`](Refusal::Limit),
 /// [`Unsupported`](Refusal::Unsupported), [`NoAlgorithm`](Refusal::NoAlgorithm), [`KeyDoesNotFit`](Refusal::KeyDoesNotFit),
@@ -237,9 +237,9 @@ pub fn sign_detached(
 
 /// Verifies the object, and returns its payload (RFC 7515 section 5.2).
 ///
-/// - With [`Signers::All`] each good key must have made a signature. It passes over bad keys, and takes one signature for two keys that
+/// - With [`Signers::All`] each valid key must have made a signature. It skips invalid keys, and takes one signature for two keys that
 ///   sign alike. So for a rule such as "Ann and Bob must both sign" call [`verify_all`].
-/// - It judges no claims, such as `exp` of a JWT.
+/// - It checks no claims, such as `exp` of a JWT.
 /// - An old object verifies too, so put a number or a date into what you sign.
 /// - One token has many texts: to revoke it, list an id in its payload, and not its text.
 /// - In JSON form a header can be unsigned, or belong to a signature that none of your keys made: if a header matters, accept only compact
@@ -288,11 +288,11 @@ pub fn verify_detached(
     calls::verify_detached(keys, object, signers.flag(), payload)
 }
 
-/// Verifies the object, and returns its payload and the place in the set, from 0, of the first key that made a signature.
+/// Verifies the object, and returns its payload and the position in the set, from 0, of the first key that made a signature.
 ///
-/// It is for a service whose keys belong to different parties. A bad key is refused as by [`sign`], so the place counts every key of the set.
+/// It is for a service whose keys belong to different parties. An invalid key is refused as by [`sign`], so the position counts every key of the set.
 ///
-/// - Nobody but the owner of a key may know it: whoever has the octets of a key can sign as its owner.
+/// - Nobody but the owner of a key may know it: whoever has the bytes of a key can sign as its owner.
 /// - An object in JSON form can have signatures of several keys. This names the first key of the set that made one, and no other.
 ///
 /// The rest is as for [`verify`].
@@ -312,7 +312,7 @@ pub fn verify_signer(keys: &[u8], object: &[u8]) -> Result<(Vec<u8>, usize), Ref
 
 /// Verifies that each key of the set signed the object, and returns its payload. The text has exactly so many keys as there are `signers`.
 ///
-/// It is for rules about people, such as "Ann and Bob must both sign". A bad key is refused as by [`sign`]. Another number of keys is
+/// It is for rules about people, such as "Ann and Bob must both sign". An invalid key is refused as by [`sign`]. Another number of keys is
 /// [`Key`](Refusal::Key), and so are two keys that sign alike: HMAC fills a short key with zeros and hashes a long one (RFC 2104), so keys
 /// that differ can make the same signatures. It is [`NotOpened`](Refusal::NotOpened) unless each key made a signature.
 ///
@@ -366,7 +366,7 @@ pub fn verify_all_detached(
 ///
 /// - The recipients share its random key, so each of them can put another plaintext into the object.
 /// - When a host leaves, make a new key for each recipient that stays.
-/// - Without an `alg`, a password of 16, 24 or 32 octets is used as a key itself, without iterations.
+/// - Without an `alg`, a password of 16, 24 or 32 bytes is used as a key itself, without iterations.
 /// - A password takes 100,000 iterations, or `p2c` of the template: name 600,000 there for one password.
 /// - Use a key for at most 2^32 objects with AES-GCM key wrap, or with `dir` and a GCM.
 /// - In the template `unprotected` is a header that is not authenticated, and `aad` is a text that everyone can read.
@@ -431,7 +431,7 @@ pub fn encrypt_detached(
 ///   [`Limit`](Refusal::Limit).
 /// - The recipients share its random key, so each of them can put another plaintext into the object.
 /// - A malicious writer can make an object that opens to two plaintexts for two recipients.
-/// - It notices a changed `aad`, but does not judge its text.
+/// - It notices a changed `aad`, but does not check its text.
 /// - Each pair of a recipient and a key that fits can cost a pass over the ciphertext, at most 256 times 64. An attacker without a key can
 ///   cause many of them: limit the length of strangers' objects.
 ///
@@ -487,7 +487,7 @@ pub fn decrypt_with_iterations(
 
 /// Writes a signed object in this form (RFC 7515 section 7). It sees no key and verifies nothing. Unknown members are left out.
 ///
-/// The payload is `None` if it is in the object. A payload that is kept apart is handed in, and becomes part of the object.
+/// The payload is `None` if it is in the object. A payload that is kept apart is passed, and becomes part of the object.
 ///
 /// Refusals: [`Json`](Refusal::Json), [`Number`](Refusal::Number), [`Form`](Refusal::Form), [`Limit`](Refusal::Limit),
 /// [`Base64`](Refusal::Base64), [`Header`](Refusal::Header), [`Unsupported`](Refusal::Unsupported),
@@ -527,7 +527,7 @@ pub fn format_signed_detached(
 
 /// Writes an encrypted object in this form (RFC 7516 section 7). It sees no key and decrypts nothing. Unknown members are left out.
 ///
-/// The ciphertext is `None` if it is in the object. A ciphertext that is kept apart is handed in, and becomes part of the object.
+/// The ciphertext is `None` if it is in the object. A ciphertext that is kept apart is passed, and becomes part of the object.
 ///
 /// The refusals are those of [`format_signed`].
 ///

@@ -15,7 +15,7 @@ pub enum Refusal {
     Write,
     /// An allocation failed.
     Memory,
-    /// The system gave no random octets.
+    /// The system gave no random bytes.
     Random,
     /// A text that must be base64url is not.
     Base64,
@@ -95,7 +95,7 @@ impl Refusal {
 
     /// Whether it is about this machine or the keys, and not about a token: a service answers 500, and not 401.
     ///
-    /// It is right for each refusal of [`Keys`](crate::Keys), which were judged before. Of a function that reads a text of keys, other refusals
+    /// It is right for each refusal of [`Keys`](crate::Keys), which were checked before. Of a function that reads a text of keys, other refusals
     /// can be about the keys too.
     #[must_use]
     pub const fn is_fault(self) -> bool {

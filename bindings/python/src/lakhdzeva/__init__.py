@@ -9,13 +9,13 @@
     except lakhdzeva.BadToken as refused:
         raise SystemExit(f"not accepted: {refused}")  # such as 17 NotOpened
 
-The shared library ``liblakhdzeva.so.3`` does the work. This module passes octets to it and decides nothing.
+The shared library ``liblakhdzeva.so.3`` does the work. This module passes bytes to it and decides nothing.
 
 - ``keys`` is ``Keys``, which a service makes once, when it starts. It can also be one key, or a set of keys, which each call reads again: a
   dict, a list of dicts, or a JSON text (``str`` or ``bytes``), which is passed as it is.
 - ``template`` is a dict or a JSON text: the headers of a token, or the members of a key. ``None`` means ``{}``, which lets the keys decide.
 - A token is a ``str``, ``bytes``, or the dict of its JSON form. A function that makes a token returns a ``str``.
-- A payload, a plaintext and a ciphertext are octets: ``bytes``, ``bytearray`` or ``memoryview``.
+- A payload, a plaintext and a ciphertext are bytes: ``bytes``, ``bytearray`` or ``memoryview``.
 - A flag is ``True`` or ``False``, and nothing else that is true or false. A number is an ``int``.
 
 A value of a class that is derived from one of these types counts as its built-in content: its own methods are not called.
@@ -117,12 +117,12 @@ def _made(function: Any, arguments: Tuple[Any, ...], *rooms: int) -> List[_libra
 
 
 def generate(template: Optional[Json] = None) -> Dict[str, Any]:
-    """Makes a key (RFC 7517) from random octets of the system.
+    """Makes a key (RFC 7517) from random bytes of the system.
 
     ``template`` has the members of the key, for example ``{"alg": "HS256"}`` or ``{"alg": "A256GCM", "kid": "7"}``. ``{"bytes": 32}`` gives
-    a key of 32 octets without an algorithm. If it has an ``alg``, but no ``use`` and no ``key_ops``, the key gets the ``key_ops`` of the ``alg``.
+    a key of 32 bytes without an algorithm. If it has an ``alg``, but no ``use`` and no ``key_ops``, the key gets the ``key_ops`` of the ``alg``.
 
-    Refusals: Json, Number and Key for a bad template, Limit, Unsupported, NoAlgorithm, KeyDoesNotFit, Random, Memory.
+    Refusals: Json, Number and Key for an invalid template, Limit, Unsupported, NoAlgorithm, KeyDoesNotFit, Random, Memory.
     """
     text = _arguments.template(template)
     (place,) = _made(_library.generate, (text, len(text)), _library.generate_room(len(text)))
@@ -131,7 +131,7 @@ def generate(template: Optional[Json] = None) -> Dict[str, Any]:
 
 
 def thumbprints(keys: KeysLike, hash: Hash = "S256") -> List[str]:
-    """Returns the thumbprints (RFC 7638) of the good keys of a set, in order. ``hash`` is ``S224``, ``S256``, ``S384`` or ``S512``, or the name
+    """Returns the thumbprints (RFC 7638) of the valid keys of a set, in order. ``hash`` is ``S224``, ``S256``, ``S384`` or ``S512``, or the name
     that hashlib has for it, such as ``sha256``.
 
     The thumbprint of a password is not safe to publish: it lets anyone test guesses.
@@ -142,7 +142,7 @@ def thumbprints(keys: KeysLike, hash: Hash = "S256") -> List[str]:
 
 
 def thumbprint(key: KeysLike, hash: Hash = "S256") -> str:
-    """Returns the thumbprint (RFC 7638) of one key. A set with more than one good key is a ValueError.
+    """Returns the thumbprint (RFC 7638) of one key. A set with more than one valid key is a ValueError.
 
     The rest is as for ``thumbprints``.
     """
@@ -155,7 +155,7 @@ def thumbprint(key: KeysLike, hash: Hash = "S256") -> str:
 def judge_keys(keys: KeysLike) -> List[KeyUses]:
     """Returns what each member of a set of keys may do, in order. A key that is alone is the one member.
 
-    ``Keys.uses`` is the same, and is judged once. A member with ``good=False`` is no octet key, or a damaged one.
+    ``Keys.uses`` is the same, and is checked once. A member with ``good=False`` is no octet key, or a damaged one.
 
     - A key may do something if it may by some algorithm. Whether it fits a token shows when that comes.
     - Whoever has a key can do with it what it may not do: ``use`` and ``key_ops`` are rules for this library and others like it.
@@ -182,7 +182,7 @@ def sign(keys: KeysLike, payload: Octets, template: Optional[Json] = None, *, co
 
     The payload is in the token as it is, and not secret. ``header`` in the template is a header that is not signed.
 
-    Refusals: Json, Number, Key and Limit for bad keys; Json, Number, Form, Header and Unsupported for a bad template; NoAlgorithm,
+    Refusals: Json, Number, Key and Limit for invalid keys; Json, Number, Form, Header and Unsupported for an invalid template; NoAlgorithm,
     KeyDoesNotFit, Limit, NotCompact, Memory.
     """
     return _signed(keys, payload, template, _arguments.form(compact))
@@ -201,9 +201,9 @@ def verify(keys: KeysLike, token: Json, *, all: bool = False) -> bytes:
 
     One of the keys must have made one of the signatures. The keys say whom you trust: never take them from the token.
 
-    - With ``all`` each good key must have made a signature. It passes over bad keys, and takes one signature for two keys that sign alike.
+    - With ``all`` each valid key must have made a signature. It skips invalid keys, and takes one signature for two keys that sign alike.
       So for a rule such as "Ann and Bob must both sign" call ``verify_all``.
-    - It judges no claims, such as ``exp`` of a JWT.
+    - It checks no claims, such as ``exp`` of a JWT.
     - An old token verifies too, so put a number or a date into what you sign.
     - One token has many texts: to revoke it, list an id in its payload, and not its text.
     - In JSON form a header can be unsigned, or belong to a signature that none of your keys made: if a header matters, accept only compact
@@ -211,7 +211,7 @@ def verify(keys: KeysLike, token: Json, *, all: bool = False) -> bytes:
     - It computes an HMAC of the payload for each key, algorithm and protected header, at most 256 times 64: limit the length of what
       strangers send.
 
-    Refusals: Json, Number, Key and Limit for bad keys; Json, Number, Form, Limit, Base64, Header and Unsupported for a bad token;
+    Refusals: Json, Number, Key and Limit for invalid keys; Json, Number, Form, Limit, Base64, Header and Unsupported for an invalid token;
     KeyDoesNotFit if no key may verify a signature; NotOpened if no signature is right; Memory.
     """
     text, octets = text_of(keys), _arguments.json_text("token", token)
@@ -236,23 +236,23 @@ def verify_detached(keys: KeysLike, token: Json, payload: Octets, *, all: bool =
 
 
 class Signed(NamedTuple):
-    """The payload of a token, and the place of the key that signed it, from 0."""
+    """The payload of a token, and the position of the key that signed it, from 0."""
 
     payload: bytes
     signer: int
 
 
 def verify_signer(keys: KeysLike, token: Json) -> Signed:
-    """Verifies a signed token, and returns its payload and the place in the set, from 0, of the first key that made a signature.
+    """Verifies a signed token, and returns its payload and the position in the set, from 0, of the first key that made a signature.
 
-    It is for a service whose keys belong to different parties. A bad key is refused as by ``sign``, so the place counts every key of the set.
+    It is for a service whose keys belong to different parties. An invalid key is refused as by ``sign``, so the position counts every key of the set.
 
-    - Nobody but the owner of a key may know it: whoever has the octets of a key can sign as its owner.
+    - Nobody but the owner of a key may know it: whoever has the bytes of a key can sign as its owner.
     - A token in JSON form can have signatures of several keys. This names the first key of the set that made one, and no other.
 
     The rest is as for ``verify``.
 
-    Refusals: Json, Number, Key and Limit for bad keys; Json, Number, Form, Limit, Base64, Header and Unsupported for a bad token;
+    Refusals: Json, Number, Key and Limit for invalid keys; Json, Number, Form, Limit, Base64, Header and Unsupported for an invalid token;
     KeyDoesNotFit if no key may verify a signature; NotOpened if no signature is right; Memory.
     """
     text, octets = text_of(keys), _arguments.json_text("token", token)
@@ -266,7 +266,7 @@ def verify_signer(keys: KeysLike, token: Json) -> Signed:
 def verify_all(keys: KeysLike, signers: int, token: Json) -> bytes:
     """Verifies that each key of the set signed the token, and returns its payload. The set has exactly ``signers`` keys.
 
-    It is for rules about people, such as "Ann and Bob must both sign". A bad key is refused as by ``sign``. Two keys that sign alike are
+    It is for rules about people, such as "Ann and Bob must both sign". An invalid key is refused as by ``sign``. Two keys that sign alike are
     refused too: HMAC fills a short key with zeros and hashes a long one (RFC 2104), so keys that differ can make the same signatures.
 
     - Use one call for one rule: two calls with two sets both succeed by one signature, if its key is in both sets.
@@ -275,8 +275,8 @@ def verify_all(keys: KeysLike, signers: int, token: Json) -> bytes:
 
     The rest is as for ``verify``.
 
-    Refusals: Json, Number, Key and Limit for bad keys; Key for another number of keys, and for two that sign alike; Json, Number, Form,
-    Limit, Base64, Header and Unsupported for a bad token; NotOpened unless each key made a signature; Memory.
+    Refusals: Json, Number, Key and Limit for invalid keys; Key for another number of keys, and for two that sign alike; Json, Number, Form,
+    Limit, Base64, Header and Unsupported for an invalid token; NotOpened unless each key made a signature; Memory.
     """
     text, number, octets = text_of(keys), _arguments.number("signers", signers), _arguments.json_text("token", token)
     arguments = (text, len(text), number, octets, len(octets))
@@ -321,12 +321,12 @@ def encrypt(keys: KeysLike, plaintext: Octets, template: Optional[Json] = None, 
 
     - The recipients share its random key, so each of them can put another plaintext into the token.
     - When a host leaves, make a new key for each recipient that stays.
-    - Without an ``alg``, a password of 16, 24 or 32 octets is used as a key itself, without iterations.
+    - Without an ``alg``, a password of 16, 24 or 32 bytes is used as a key itself, without iterations.
     - A password takes 100,000 iterations, or ``p2c`` of the template: name 600,000 there for one password.
     - Use a key for at most 2^32 tokens with AES-GCM key wrap, or with ``dir`` and a GCM.
     - In the template ``unprotected`` is a header that is not authenticated, and ``aad`` is a text that everyone can read.
 
-    Refusals: Json, Number, Key and Limit for bad keys; Json, Number, Form, Base64, Header and Unsupported for a bad template;
+    Refusals: Json, Number, Key and Limit for invalid keys; Json, Number, Form, Base64, Header and Unsupported for an invalid template;
     NoAlgorithm, KeyDoesNotFit, Limit, NotCompact, Random, Memory.
     """
     return _encrypted(keys, plaintext, template, _arguments.form(compact))[0]
@@ -354,11 +354,11 @@ def decrypt(keys: KeysLike, token: Json, *, ciphertext: Optional[Octets] = None,
     - Name 600,000 for one password of today's recommendation.
     - The recipients share its random key, so each of them can put another plaintext into the token.
     - A malicious writer can make a token that opens to two plaintexts for two recipients.
-    - It notices a changed ``aad``, but does not judge its text.
+    - It notices a changed ``aad``, but does not check its text.
     - Each pair of a recipient and a key that fits can cost a pass over the ciphertext, at most 256 times 64. An attacker without a key can
       cause many of them: limit the length of strangers' objects.
 
-    Refusals: Json, Number, Key and Limit for bad keys; Json, Number, Form, Limit, Base64, Header and Unsupported for a bad token;
+    Refusals: Json, Number, Key and Limit for invalid keys; Json, Number, Form, Limit, Base64, Header and Unsupported for an invalid token;
     KeyDoesNotFit if no key may decrypt; Limit for too many iterations; NotOpened if no key decrypts; Memory.
     """
     text, octets, most = text_of(keys), _arguments.json_text("token", token), _arguments.number("iterations", iterations)
@@ -394,7 +394,7 @@ def format_signed(token: Json, *, compact: bool = False, payload: Optional[Octet
 
     ``payload`` is the payload if the token does not contain it.
 
-    Refusals: Json, Number, Form, Limit, Base64, Header and Unsupported for a bad token; NotCompact, Memory.
+    Refusals: Json, Number, Form, Limit, Base64, Header and Unsupported for an invalid token; NotCompact, Memory.
     """
     return _formatted(_library.format_signed, token, _arguments.form(compact), "payload", payload)[0]
 
@@ -413,7 +413,7 @@ def format_encrypted(token: Json, *, compact: bool = False, ciphertext: Optional
 
     ``ciphertext`` is the ciphertext if the token does not contain it.
 
-    Refusals: Json, Number, Form, Limit, Base64, Header and Unsupported for a bad token; NotCompact, Memory.
+    Refusals: Json, Number, Form, Limit, Base64, Header and Unsupported for an invalid token; NotCompact, Memory.
     """
     return _formatted(_library.format_encrypted, token, _arguments.form(compact), "ciphertext", ciphertext)[0]
 

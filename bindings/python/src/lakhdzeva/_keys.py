@@ -1,4 +1,4 @@
-"""Keys that are judged when they are read."""
+"""Keys that are checked when they are read."""
 
 from __future__ import annotations
 
@@ -46,7 +46,7 @@ def _may(numbers: bytes, use: int) -> bool:
 
 
 class KeyUses(NamedTuple):
-    """Whether a member of a text of keys is a good key, and what it may do by some algorithm."""
+    """Whether a member of a text of keys is a valid key, and what it may do by some algorithm."""
 
     good: bool
     sign: bool
@@ -62,15 +62,15 @@ def uses_of(keys: Any) -> List[KeyUses]:
 
 
 class Keys:
-    """One key or a set of keys, which is judged here and not at each call.
+    """One key or a set of keys, which is checked here and not at each call.
 
     ``keys`` is a dict, a list of dicts, or the JSON text of a key or of a set. ``Keys.from_file`` reads this text from a file, and
-    ``Keys.from_secret`` makes a key from the octets of a secret. A text that has no good key, or more than 64, is refused as a ``Fault``.
+    ``Keys.from_secret`` makes a key from the bytes of a secret. A text that has no valid key, or more than 64, is refused as a ``Fault``.
 
     With ``Keys`` a refusal of ``verify`` and ``decrypt`` is about the token, except for ``Memory``. A service asks two things when it starts:
 
-    - Bad keys of a set are passed over. ``len(keys)`` is the number of the good ones: compare it with the number that you expect. ``uses`` says
-      which are bad, and what each of the others may do.
+    - Invalid keys of a set are skipped. ``len(keys)`` is the number of the valid ones: compare it with the number that you expect. ``uses`` says
+      which are invalid, and what each of the others may do.
     - ``can_sign``, ``can_verify``, ``can_encrypt`` and ``can_decrypt`` say whether one of them may. To sign and to encrypt, all of them must.
 
     Every function that takes keys takes ``Keys``, and does not write their JSON again. The printed form shows no secret and no thumbprint.
@@ -91,11 +91,11 @@ class Keys:
 
     @classmethod
     def from_secret(cls, secret: Octets, alg: str, kid: str = "") -> "Keys":
-        """Makes a key from the octets of a secret that both sides share, for one algorithm, such as ``HS256``.
+        """Makes a key from the bytes of a secret that both sides share, for one algorithm, such as ``HS256``.
 
         A secret that somebody gave as text is encoded as its sender encodes it: ``text.encode()`` for the characters themselves,
         ``bytes.fromhex(text)`` for hexadecimal digits. A secret that is too short for the algorithm is refused with KeyDoesNotFit: HS256
-        needs 32 octets (RFC 7518, section 3.2).
+        needs 32 bytes (RFC 7518, section 3.2).
         """
         octets = _arguments.octets("secret", secret)
         if type(alg) is not str:
@@ -109,7 +109,7 @@ class Keys:
 
     @property
     def uses(self) -> List[KeyUses]:
-        """What each member of the set may do, in order, with the bad ones. The set of a key that is alone has one member."""
+        """What each member of the set may do, in order, with the invalid ones. The set of a key that is alone has one member."""
         return uses_of(self)
 
     @property
@@ -133,7 +133,7 @@ class Keys:
         return _may(self._numbers, _library.MAY_DECRYPT)
 
     def thumbprints(self, hash: Hash = "S256") -> List[str]:
-        """The thumbprints (RFC 7638) of the good keys, in order. That of a password is not safe to publish: it lets anyone test guesses."""
+        """The thumbprints (RFC 7638) of the valid keys, in order. That of a password is not safe to publish: it lets anyone test guesses."""
         bits = _arguments.hash_bits(hash)
         return list(self._thumbprints) if bits == _SHA256 else _thumbprints(self._text, bits)
 

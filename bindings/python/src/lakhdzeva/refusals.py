@@ -98,7 +98,7 @@ class Memory(Refused):
 
 
 class Random(Refused):
-    """The system gave no random octets."""
+    """The system gave no random bytes."""
 
     number = 5
 
@@ -122,7 +122,7 @@ class Number(Refused):
 
 
 class Key(Refused):
-    """Not a good octet key, no such key in the set, or a bad template for a key. For ``verify_all`` also another number of keys, and two keys
+    """Not a valid octet key, no such key in the set, or an invalid template for a key. For ``verify_all`` also another number of keys, and two keys
     that sign alike."""
 
     number = 9
