@@ -23,8 +23,8 @@ complete -c jose -n '__jose_at 1' -a b64 -d 'base64url texts'
 complete -c jose -n '__jose_at 1' -a jwe -d 'encrypted objects'
 complete -c jose -n '__jose_at 1' -a jwk -d keys
 complete -c jose -n '__jose_at 1' -a jws -d 'signed objects'
-complete -c jose -n '__jose_at 2 b64' -a enc -d 'octets to text'
-complete -c jose -n '__jose_at 2 b64' -a dec -d 'text to octets'
+complete -c jose -n '__jose_at 2 b64' -a enc -d 'bytes to text'
+complete -c jose -n '__jose_at 2 b64' -a dec -d 'text to bytes'
 complete -c jose -n '__jose_at 2 jwe' -a enc -d encrypt
 complete -c jose -n '__jose_at 2 jwe' -a dec -d decrypt
 complete -c jose -n '__jose_at 2 jwe' -a fmt -d 'write in another form'
@@ -36,14 +36,14 @@ complete -c jose -n '__jose_at 2 jws' -a fmt -d 'write in another form'
 
 complete -c jose -n '__jose_lacks jwk gen i value' -s i -r -F -d template
 complete -c jose -n '__jose_lacks jwk gen o value' -s o -r -F -d key
-complete -c jose -n '__jose_lacks jwk gen R value' -s R -r -F -d 'random octets'
+complete -c jose -n '__jose_lacks jwk gen R value' -s R -r -F -d 'random bytes'
 complete -c jose -n '__jose_lacks jwk thp i value' -s i -r -F -d 'key or set'
 complete -c jose -n '__jose_lacks jwk thp a value' -s a -x -a 'S224 S256 S384 S512' -d hash
 complete -c jose -n '__jose_lacks jwk thp o value' -s o -r -F -d thumbprints
-complete -c jose -n '__jose_lacks b64 enc I value' -s I -r -F -d octets
+complete -c jose -n '__jose_lacks b64 enc I value' -s I -r -F -d bytes
 complete -c jose -n '__jose_lacks b64 enc o value' -s o -r -F -d text
 complete -c jose -n '__jose_lacks b64 dec i value' -s i -r -F -d text
-complete -c jose -n '__jose_lacks b64 dec O value' -s O -r -F -d octets
+complete -c jose -n '__jose_lacks b64 dec O value' -s O -r -F -d bytes
 complete -c jose -n '__jose_lacks jws sig s value' -s s -r -F -d template
 complete -c jose -n '__jose_lacks jws sig I value' -s I -r -F -d payload
 complete -c jose -n '__jose_lacks jws sig k value' -s k -r -F -d 'key or set'
@@ -66,7 +66,7 @@ complete -c jose -n '__jose_lacks jwe enc k value' -s k -r -F -d 'key or set'
 complete -c jose -n '__jose_lacks jwe enc o value' -s o -r -F -d object
 complete -c jose -n '__jose_lacks jwe enc O value' -s O -r -F -d 'ciphertext to detach'
 complete -c jose -n '__jose_lacks jwe enc c' -s c -d 'compact form'
-complete -c jose -n '__jose_lacks jwe enc R value' -s R -r -F -d 'random octets'
+complete -c jose -n '__jose_lacks jwe enc R value' -s R -r -F -d 'random bytes'
 complete -c jose -n '__jose_lacks jwe dec i value' -s i -r -F -d object
 complete -c jose -n '__jose_lacks jwe dec I value' -s I -r -F -d 'detached ciphertext'
 complete -c jose -n '__jose_lacks jwe dec k value' -s k -r -F -d 'key or set'
