@@ -64,7 +64,7 @@ STATED = [
 # Statements in which the same number is no limit.
 OTHERS = [
     "[Tt]heirs writes 1,000",
-    "(token of|Parts have) 100,000 octets",
+    "(token of|Parts have) 100,000 (octets|bytes)",
     "256 KiB of stack",
     "(of|in) [(]?224, 256, 384",
     '("S256":|Sha256 =>|Hash =|255,) 256',
