@@ -1,5 +1,6 @@
 """Tries what examples/ has for services, with an installed library: the judges of claims in Python, Go, Rust and C with the cases of
-examples/claims/cases.json, and the web services in these languages with tokens that Python's hmac signed.
+examples/claims/cases.json, and the web services in these languages with tokens that Python's hmac signed. The code that the pages for services
+show is compared with the examples, or run.
 """
 import asyncio, concurrent.futures, contextlib, http.client, json, os, pathlib, re, resource, shutil, subprocess, sys, tempfile, time
 
