@@ -1,7 +1,7 @@
 use crate::{Form, Hash, Refusal, Signers};
 use std::fmt;
 
-/// One key or a set of keys, which was judged when it was read.
+/// One key or a set of keys, which was checked when it was read.
 ///
 /// So a refusal of its methods is about the token, or about what is signed or encrypted, unless it [is a fault](Refusal::is_fault) of the machine.
 /// A service asks two things when it starts:
@@ -16,7 +16,7 @@ use std::fmt;
 /// ```
 /// use lakhdzeva::{Keys, Refusal};
 ///
-/// // A file that is cut ends the service when it starts, and not each request.
+/// // A truncated file ends the service when it starts, and not each request.
 /// assert_eq!(Keys::new(br#"{"kty":"oct","alg":"HS256","k":"AAECAwQFBgcI"#).unwrap_err(), Refusal::Json);
 /// let keys = Keys::from_secret(b"a secret of at least 32 characters", "HS256")?;
 /// assert!(keys.can_verify());

@@ -168,7 +168,7 @@ pub fn thumbprints(keys: &[u8], hash: Hash) -> Result<String, Refusal> {
 }
 
 /// What each member of a text of keys may do, in order: each member of a set, or the key that is alone. [`Keys::uses`] is the same, and is
-/// judged once.
+/// checked once.
 ///
 /// - A key may do something if it may by some algorithm. Whether it fits an object shows when that comes.
 /// - Whoever has a key can do with it what it may not do: `use` and `key_ops` are rules for this library and others like it.

@@ -1,7 +1,7 @@
 use std::error::Error;
 use std::fmt;
 
-/// The cause for which a call has no answer. The numbers are stable.
+/// The cause for which a call has no result. The numbers are stable.
 ///
 /// If several causes apply, the first in the order of the library's specification is reported.
 #[derive(Clone, Copy, Debug, PartialEq, Eq, Hash)]
