@@ -108,8 +108,9 @@ pictures:
 	@scripts/pictures
 
 # Compares the pages and the completions with the program's table of commands and its limits, the limits and refusals of the bindings with
-# the code, and the pictures with their figures. It refuses long sentences in the pages for users. It tries the refusals that the pages
-# list, the completions, install and uninstall, and runs shellcheck on the scripts that are installed.
+# the code, the pictures with their figures, and the numbers of docs/TESTING.md with the sources. It refuses long sentences in the pages for
+# users. It tries the refusals that the pages list, the completions, install and uninstall, and runs shellcheck on the scripts that are
+# installed.
 pages:
 	@scripts/pages
 	@scripts/pictures --check
