@@ -200,21 +200,28 @@ def check_blocks():
         check(f"{page}: its code is that of the examples", missing)
 
 
+def python_of(page):
+    """The Python of a page as one program: its blocks, or its indented example."""
+    indented = re.findall(r"(?:^    .*\n|^\n(?=    ))+", (TOP / page).read_text(), re.M)
+    examples = [re.sub(r"^    ", "", it, flags=re.M) for it in indented if "import lakhdzeva" in it]
+    return "".join([block for language, block in blocks_of(page) if language == "python"] or examples)
+
+
 def try_blocks(environment):
-    """Runs the Python of each page as one program, with a valid and with a forged token. If the page ends at an error, it does so for the forged one."""
-    for page in "README.md", "docs/SERVICES.md", "docs/C.md":
-        program = "".join(block for language, block in blocks_of(page) if language == "python")
-        ends = "raise SystemExit(f" in program
-        with tempfile.TemporaryDirectory() as folder:
-            for name in "sign.jwk", "service.jwk":
-                (pathlib.Path(folder) / name).write_bytes(RFC7515_KEY)
-            good = token(claims_now())
-            for received, wanted in (good, 0), (good[:-4] + "AAAA", 1):
-                head = f"import lakhdzeva\nsecret, token, signature, body = {'6a' * 32!r}, {received.encode()!r}, b'', b''\n"
-                if wanted and not ends:
-                    continue
+    """Runs the Python of each page, with a valid and with a forged token. If the page ends at an error, it does so for the forged one."""
+    for page in "README.md", "docs/SERVICES.md", "docs/C.md", "bindings/python/README.md":
+        program = python_of(page)
+        good = token(claims_now())
+        for what, received, wanted in ("a valid", good, 0), ("a forged", good[:-4] + "AAAA", 1):
+            if wanted and "raise SystemExit(f" not in program:
+                continue
+            with tempfile.TemporaryDirectory() as folder:
+                for name, octets in ("sign.jwk", RFC7515_KEY), ("service.jwk", RFC7515_KEY), ("deploy.jws", received.encode()):
+                    (pathlib.Path(folder) / name).write_bytes(octets)
+                head = f"import lakhdzeva\nsecret, token = {'6a' * 32!r}, {received.encode()!r}\n"
                 status, printed = run(sys.executable, "-c", head + program, cwd=folder, env=environment)
-                check(f"{page}: its Python with {'a forged' if wanted else 'a valid'} token", [] if status == wanted and "Traceback" not in printed else [f"status {status}, {printed[-500:]}"])
+            right = program and status == wanted and "Traceback" not in printed
+            check(f"{page}: its Python with {what} token", [] if right else [f"status {status}, {printed[-500:]}"])
 
 
 # ---- services
