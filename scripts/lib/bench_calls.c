@@ -13,7 +13,7 @@
 #define DIRECT "{\"kty\":\"oct\",\"k\":\"AAECAwQFBgcICQoLDA0ODxAREhMUFRYXGBkaGxwdHh8\",\"alg\":\"A256GCM\"}"
 #define TEXT(text) (text), sizeof(text) - 1
 
-enum { ROOM = 8192 };
+enum { ROOM = 1 << 15 };
 static char content[ROOM], token[ROOM], sealed[ROOM], direct[ROOM], place[ROOM];
 static size_t size, token_length, sealed_length, direct_length, length;
 
