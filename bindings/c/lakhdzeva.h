@@ -134,6 +134,8 @@ size_t lakhdzeva_judge_keys_room(size_t keys_length) LAKHDZEVA_ROOM_;
    key, and otherwise the sum of LAKHDZEVA_GOOD and of the other enum lakhdzeva_uses that hold. A service calls it once, when it reads its keys: then
    keys that may do nothing, or other things than they are for, are seen before the first object comes. It is refused as the keys are refused by
    lakhdzeva_verify.
+   - A service that verifies asks that each byte has LAKHDZEVA_MAY_VERIFY. LAKHDZEVA_GOOD is not enough: a key of 5 bytes for HS256 has it, and
+     verifies nothing.
    - A key may do something if it may by some algorithm. Whether it fits an object shows when that comes.
    - Whoever has a key can do with it what it may not do: `use` and `key_ops` are rules for this library and others like it. */
 enum lakhdzeva_status lakhdzeva_judge_keys(const void *keys, size_t keys_length, void *uses, size_t room, size_t *length) LAKHDZEVA_STATUS_;

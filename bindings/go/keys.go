@@ -11,9 +11,16 @@ import (
 // Keys is one key or a set of keys that was checked when it was read: in each error of its methods that is not a Fault, the token is at fault,
 // or what is signed or encrypted. Any number of goroutines may use it at once.
 //
-// A service asks two things when it starts:
-//   - Invalid keys of a set are skipped. Len is the number of the valid ones: compare it with the number that you expect. Uses says which are
-//     bad, and what each of the others may do.
+// A service that verifies tokens asks one thing when it starts, and ends if a key may not verify:
+//
+//	for at, uses := range keys.Uses() {
+//		if !uses.Verify {
+//			return fmt.Errorf("the key at position %d may not verify signatures", at)
+//		}
+//	}
+//
+//   - To verify and to decrypt, a key of a set that may not is skipped, and each token that it signed is ErrNotOpened. Len is the number of the
+//     valid keys, and Good is such a key. A valid key need not be usable: one of 5 bytes for HS256 verifies nothing.
 //   - CanSign, CanVerify, CanEncrypt and CanDecrypt say whether one of them may. To sign and to encrypt, all of them must.
 //
 // What fmt prints of it has no secret and no thumbprint.
@@ -23,7 +30,8 @@ type Keys struct {
 	thumbprints []string
 }
 
-// KeyUses says whether a member of a text of keys is a valid key, and what it may do by some algorithm.
+// KeyUses says whether a member of a text of keys is a valid key, and what it may do by some algorithm. A valid key (Good) may do nothing if its
+// length does not fit its alg.
 type KeyUses struct {
 	Good, Sign, Verify, Encrypt, Decrypt bool
 }
@@ -97,7 +105,7 @@ func (keys *Keys) CanSign() bool {
 	return keys.some(func(uses KeyUses) bool { return uses.Sign })
 }
 
-// CanVerify says whether one of the keys may verify signatures. A service that verifies tokens asks this when it starts.
+// CanVerify says whether one of the keys may verify signatures. A service that verifies tokens asks of each key whether it may, by Uses.
 func (keys *Keys) CanVerify() bool {
 	return keys.some(func(uses KeyUses) bool { return uses.Verify })
 }

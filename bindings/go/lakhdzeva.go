@@ -198,6 +198,7 @@ func Thumbprints(keys []byte, hash Hash) (string, error) {
 
 // JudgeKeys returns what each member of a text of keys may do, in order: each member of a set, or the key that is alone.
 //   - A key may do something if it may by some algorithm. Whether it fits an object shows when that comes.
+//   - A key with Good need not be usable: one of 5 bytes for HS256 verifies nothing. A service that verifies asks for Verify of each.
 //   - Whoever has a key can do with it what it may not do: `use` and `key_ops` are rules for this library and others like it.
 func JudgeKeys(keys []byte) ([]KeyUses, error) {
 	numbers, err := answer(C.lakhdzeva_judge_keys_room(size(keys)), func(uses []byte, length *C.size_t) uint32 {

@@ -4,8 +4,9 @@
      ./token-service service.jwk 8080 login api
 
    The words are the file of the keys, the port, the issuer and the audience that each token must name. The file has one key, or a set of keys
-   while one key replaces another. If it changes, the service reads it again. If the new keys are broken, it says so and keeps the old ones, so
-   write a new file and rename it. A bad token is 401. What is not the sender's fault is 500. Put a server in front that speaks TLS. */
+   while one key replaces another. The service starts if every key of it may verify signatures. If the file changes, the service reads it again.
+   If one of the new keys may not verify, it says so and keeps the old ones. So write a new file and rename it. A bad token is 401. What is not
+   the sender's fault is 500. Put a server in front that speaks TLS. */
 #define _GNU_SOURCE
 #include "claims.h"
 
@@ -44,21 +45,21 @@ static pthread_mutex_t lock = PTHREAD_MUTEX_INITIALIZER;
 static const char *read_keys(struct keys *found) {
     FILE *file = fopen(key_file, "rb");
     unsigned char uses[64];
-    size_t members = 0;
-    bool can_verify = false;
+    static char useless[64];
     if (!file) return "it cannot be read";
     found->text = malloc(MOST_KEYS);
     found->length = found->text ? fread(found->text, 1, MOST_KEYS, file) : 0;
     bool whole = found->text && feof(file) && !ferror(file);
     fclose(file);
     if (!whole) return "it cannot be read, or is too long";
-    enum lakhdzeva_status status = lakhdzeva_judge_keys(found->text, found->length, uses, sizeof uses, &members);
+    enum lakhdzeva_status status = lakhdzeva_judge_keys(found->text, found->length, uses, sizeof uses, &found->count);
     if (status) return lakhdzeva_name(status);
-    for (size_t i = 0; i < members; i++) {
-        found->count += uses[i] != 0;
-        can_verify = can_verify || uses[i] & LAKHDZEVA_MAY_VERIFY;
+    for (size_t i = 0; i < found->count; i++) {
+        if (uses[i] & LAKHDZEVA_MAY_VERIFY) continue;
+        snprintf(useless, sizeof useless, "the key at position %zu may not verify signatures", i);
+        return useless;
     }
-    return can_verify ? NULL : "no key in it may verify a signature";
+    return NULL;
 }
 
 static void forget(struct keys *old) {

@@ -7,8 +7,9 @@
      jose jws sig -c -k service.jwk -I claims.json | sed 's/^/Authorization: Bearer /' | curl -H @- http://127.0.0.1:8080/
 
 The words are the file of the keys, the port, the issuer and the audience that each token must name. The file has one key, or a set of keys
-while one key replaces another. If it changes, the service reads it again. If the new keys are broken, it says so and keeps the old ones, so
-write a new file and rename it. A bad token is 401. What is not the sender's fault is 500. Put a server in front that speaks TLS.
+while one key replaces another. The service starts if every key of it may verify signatures. If the file changes, the service reads it again.
+If one of the new keys may not verify, it says so and keeps the old ones. So write a new file and rename it. A bad token is 401. What is not
+the sender's fault is 500. Put a server in front that speaks TLS.
 """
 import json, os, re, sys, time, traceback
 from http.server import BaseHTTPRequestHandler, ThreadingHTTPServer
@@ -37,8 +38,9 @@ class KeyFile:
 
     def read(self):
         keys = lakhdzeva.Keys.from_file(self.name)
-        if not keys.can_verify:
-            raise ValueError("no key in it may verify a signature")
+        for at, uses in enumerate(keys.uses):
+            if not uses.verify:
+                raise ValueError(f"the key at position {at} may not verify signatures")
         print(f"token-service.py: {self.name}: keys: {len(keys)}", file=sys.stderr)
         return keys
 

@@ -213,7 +213,7 @@ def try_blocks(environment):
         program = python_of(page)
         good = token(claims_now())
         for what, received, wanted in ("a valid", good, 0), ("a forged", good[:-4] + "AAAA", 1):
-            if wanted and "raise SystemExit(f" not in program:
+            if wanted and 'raise SystemExit(f"not accepted' not in program:
                 continue
             with tempfile.TemporaryDirectory() as folder:
                 for name, octets in ("sign.jwk", RFC7515_KEY), ("service.jwk", RFC7515_KEY), ("deploy.jws", received.encode()):
@@ -316,16 +316,24 @@ def started(words, folder, environment, keys="service.jwk"):
         process.stdout.close()
 
 
+def useless_keys():
+    """Members of a set that may not verify, each of which is valid JSON, and the first three a valid key."""
+    return {"a key of 5 bytes": oct_key(bytes(5), alg="HS256"), "a key for encryption": oct_key(bytes(32), alg="A256KW"),
+            "a key to sign with": oct_key(bytes(32), alg="HS256", key_ops=["sign"]), "an RSA key": b'{"kty":"RSA"}'}
+
+
 def refuses_broken_keys(built, folder):
     rows = {"no JSON": b"secret", "cut": RFC7515_KEY[:-9], "no key": b"{}", "an RSA key": b'{"kty":"RSA"}', "a damaged key": RFC7515_KEY[:-9] + b'="}', "an empty set": key_set(),
             "for encryption": oct_key(bytes(32), alg="A256KW"), "no file": None, "65 keys": key_set(*[RFC7515_KEY] * 65)}
+    rows |= {f"a set with {what} at 1": key_set(RFC7515_KEY, key, RFC7515_KEY) for what, key in useless_keys().items()}
     problems = []
     for what, keys in rows.items():
         (folder / "broken.jwk").unlink(missing_ok=True)
         if keys is not None:
             (folder / "broken.jwk").write_bytes(keys)
         with started(built.service, folder, built.environment, "broken.jwk") as (port, process, errors):
-            if port or process.returncode != 1 or not re.fullmatch(r"token-service(\.py)?: broken.jwk: .*\n", errors()) or "Traceback" in errors():
+            if port or process.returncode != 1 or not re.fullmatch(r"token-service(\.py)?: broken.jwk: .*\n", errors()) or "Traceback" in errors() \
+                    or ("at 1" in what and "at position 1 " not in errors()):
                 problems.append(f"{what}: {port}, {process.returncode}, {errors()[-300:]!r}")
     check(f"{built.name}: the service does not start with {len(rows)} kinds of broken keys", problems)
 
@@ -353,7 +361,7 @@ def reads_again(built, folder):
         expect("the old key", 200, 401)
         put(folder, key_set(RFC7515_KEY, new))
         expect("both keys", 200, 200)
-        for broken in b"", RFC7515_KEY[:-9], b'{"kty":"RSA"}', oct_key(bytes(32), alg="A256KW"):
+        for broken in b"", RFC7515_KEY[:-9], b'{"kty":"RSA"}', oct_key(bytes(32), alg="A256KW"), *(key_set(new, key) for key in useless_keys().values()):
             put(folder, broken)
             expect(f"broken keys {broken[:20]}", 200, 200)
         (folder / "service.jwk").unlink()

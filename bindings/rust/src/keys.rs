@@ -4,10 +4,22 @@ use std::fmt;
 /// One key or a set of keys, which was checked when it was read.
 ///
 /// So a refusal of its methods is about the token, or about what is signed or encrypted, unless it [is a fault](Refusal::is_fault) of the machine.
-/// A service asks two things when it starts:
+/// A service that verifies tokens asks one thing when it starts, and ends if a key may not verify:
 ///
-/// - Invalid keys of a set are skipped. [`len`](Keys::len) is the number of the valid ones: compare it with the number that you expect.
-///   [`uses`](Keys::uses) says which are invalid, and what each of the others may do.
+/// ```
+/// # fn check(keys: &lakhdzeva::Keys) -> Result<(), String> {
+/// if let Some(at) = keys.uses().iter().position(|uses| !uses.verify) {
+///     return Err(format!("the key at position {at} may not verify signatures"));
+/// }
+/// # Ok(())
+/// # }
+/// # assert!(check(&lakhdzeva::Keys::from_secret(&[7; 32], "HS256").unwrap()).is_ok());
+/// # assert!(check(&lakhdzeva::Keys::from_secret(&[7; 32], "A256KW").unwrap()).is_err());
+/// ```
+///
+/// - To verify and to decrypt, a key of a set that may not is skipped, and each token that it signed is [`NotOpened`](Refusal::NotOpened).
+///   [`len`](Keys::len) is the number of the valid keys, and `good` is such a key. A valid key need not be usable: one of 5 bytes for HS256
+///   verifies nothing.
 /// - [`can_sign`](Keys::can_sign), [`can_verify`](Keys::can_verify), [`can_encrypt`](Keys::can_encrypt) and
 ///   [`can_decrypt`](Keys::can_decrypt) say whether one of them may. To sign and to encrypt, all of them must.
 ///
@@ -19,7 +31,7 @@ use std::fmt;
 /// // A truncated file ends the service when it starts, and not each request.
 /// assert_eq!(Keys::new(br#"{"kty":"oct","alg":"HS256","k":"AAECAwQFBgcI"#).unwrap_err(), Refusal::Json);
 /// let keys = Keys::from_secret(b"a secret of at least 32 characters", "HS256")?;
-/// assert!(keys.can_verify());
+/// assert!(keys.uses().iter().all(|uses| uses.verify));
 /// assert_eq!(format!("{keys:?}"), "Keys(1)");
 /// # Ok::<(), Refusal>(())
 /// ```
@@ -30,7 +42,8 @@ pub struct Keys {
     thumbprints: Vec<String>,
 }
 
-/// Whether a member of a text of keys is a valid key, and what it may do by some algorithm.
+/// Whether a member of a text of keys is a valid key, and what it may do by some algorithm. A valid key (`good`) may do nothing if its length
+/// does not fit its `alg`.
 #[derive(Clone, Copy, Debug, PartialEq, Eq)]
 #[allow(clippy::struct_excessive_bools)]
 pub struct KeyUses {
@@ -109,7 +122,7 @@ impl Keys {
         self.uses.iter().any(|uses| uses.sign)
     }
 
-    /// Whether one of the keys may verify signatures. A service that verifies tokens asks this when it starts.
+    /// Whether one of the keys may verify signatures. A service that verifies tokens asks of each key whether it may, by [`uses`](Keys::uses).
     #[must_use]
     pub fn can_verify(&self) -> bool {
         self.uses.iter().any(|uses| uses.verify)

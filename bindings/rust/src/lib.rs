@@ -171,6 +171,7 @@ pub fn thumbprints(keys: &[u8], hash: Hash) -> Result<String, Refusal> {
 /// checked once.
 ///
 /// - A key may do something if it may by some algorithm. Whether it fits an object shows when that comes.
+/// - A key with `good` need not be usable: one of 5 bytes for HS256 verifies nothing. A service that verifies asks for `verify` of each.
 /// - Whoever has a key can do with it what it may not do: `use` and `key_ops` are rules for this library and others like it.
 ///
 /// Refusals: [`Json`](Refusal::Json), [`Number`](Refusal::Number), [`Key`](Refusal::Key), [`Limit`](Refusal::Limit),

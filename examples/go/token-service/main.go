@@ -3,8 +3,9 @@
 //	go build && ./token-service service.jwk 8080 login api
 //
 // The words are the file of the keys, the port, the issuer and the audience that each token must name. The file has one key, or a set of keys
-// while one key replaces another. If it changes, the service reads it again. If the new keys are broken, it says so and keeps the old ones, so
-// write a new file and rename it. A bad token is 401. What is not the sender's fault is 500. Put a server in front that speaks TLS.
+// while one key replaces another. The service starts if every key of it may verify signatures. If the file changes, the service reads it again.
+// If one of the new keys may not verify, it says so and keeps the old ones. So write a new file and rename it. A bad token is 401. What is not
+// the sender's fault is 500. Put a server in front that speaks TLS.
 package main
 
 import (
@@ -57,8 +58,10 @@ func (file *keyFile) read() error {
 	if err != nil {
 		return err
 	}
-	if !keys.CanVerify() {
-		return errors.New("no key in it may verify a signature")
+	for at, uses := range keys.Uses() {
+		if !uses.Verify {
+			return fmt.Errorf("the key at position %d may not verify signatures", at)
+		}
 	}
 	log.Printf("%s: keys: %d", file.name, keys.Len())
 	file.keys = keys

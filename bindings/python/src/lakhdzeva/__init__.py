@@ -155,7 +155,8 @@ def thumbprint(key: KeysLike, hash: Hash = "S256") -> str:
 def judge_keys(keys: KeysLike) -> List[KeyUses]:
     """Returns what each member of a set of keys may do, in order. A key that is alone is the one member.
 
-    ``Keys.uses`` is the same, and is checked once. A member with ``good=False`` is no octet key, or a damaged one.
+    ``Keys.uses`` is the same, and is checked once. A member with ``good=False`` is no octet key, or a damaged one. One with
+    ``good=True`` need not be usable, so ask for ``verify`` if it has to verify.
 
     - A key may do something if it may by some algorithm. Whether it fits a token shows when that comes.
     - Whoever has a key can do with it what it may not do: ``use`` and ``key_ops`` are rules for this library and others like it.

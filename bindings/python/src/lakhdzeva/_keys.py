@@ -46,7 +46,8 @@ def _may(numbers: bytes, use: int) -> bool:
 
 
 class KeyUses(NamedTuple):
-    """Whether a member of a text of keys is a valid key, and what it may do by some algorithm."""
+    """Whether a member of a text of keys is a valid key, and what it may do by some algorithm. A valid key (``good``) may do nothing if its
+    length does not fit its ``alg``."""
 
     good: bool
     sign: bool
@@ -67,10 +68,14 @@ class Keys:
     ``keys`` is a dict, a list of dicts, or the JSON text of a key or of a set. ``Keys.from_file`` reads this text from a file, and
     ``Keys.from_secret`` makes a key from the bytes of a secret. A text that has no valid key, or more than 64, is refused as a ``Fault``.
 
-    With ``Keys`` a refusal of ``verify`` and ``decrypt`` is about the token, except for ``Memory``. A service asks two things when it starts:
+    With ``Keys`` a refusal of ``verify`` and ``decrypt`` is about the token, except for ``Memory``. A service that verifies tokens asks one thing
+    when it starts, and ends if a key may not verify::
 
-    - Invalid keys of a set are skipped. ``len(keys)`` is the number of the valid ones: compare it with the number that you expect. ``uses`` says
-      which are invalid, and what each of the others may do.
+        if not all(uses.verify for uses in keys.uses):
+            raise SystemExit(f"may not verify: {[at for at, uses in enumerate(keys.uses) if not uses.verify]}")
+
+    - To verify and to decrypt, a key of a set that may not is skipped, and each token that it signed is ``17 NotOpened``. ``len(keys)`` is the
+      number of the valid keys, and ``good`` is such a key. A valid key need not be usable: one of 5 bytes for HS256 verifies nothing.
     - ``can_sign``, ``can_verify``, ``can_encrypt`` and ``can_decrypt`` say whether one of them may. To sign and to encrypt, all of them must.
 
     Every function that takes keys takes ``Keys``, and does not write their JSON again. The printed form shows no secret and no thumbprint.
@@ -119,7 +124,7 @@ class Keys:
 
     @property
     def can_verify(self) -> bool:
-        """Whether one of the keys may verify signatures. A service that verifies tokens asks this when it starts."""
+        """Whether one of the keys may verify signatures. A service asks of each key whether it may: ``all(it.verify for it in keys.uses)``."""
         return _may(self._numbers, _library.MAY_VERIFY)
 
     @property

@@ -3,8 +3,9 @@
 //!     cargo run --release -- service.jwk 8080 login api
 //!
 //! The words are the file of the keys, the port, the issuer and the audience that each token must name. The file has one key, or a set of keys
-//! while one key replaces another. If it changes, the service reads it again. If the new keys are broken, it says so and keeps the old ones, so
-//! write a new file and rename it. A bad token is 401. What is not the sender's fault is 500. Put a server in front that speaks TLS.
+//! while one key replaces another. The service starts if every key of it may verify signatures. If the file changes, the service reads it again.
+//! If one of the new keys may not verify, it says so and keeps the old ones. So write a new file and rename it. A bad token is 401. What is not
+//! the sender's fault is 500. Put a server in front that speaks TLS.
 
 mod claims;
 
@@ -43,8 +44,8 @@ impl KeyFile {
         self.seen = seen;
         let text = fs::read(&self.name).map_err(|fault| fault.to_string())?;
         let keys = Keys::new(&text).map_err(|refusal| refusal.to_string())?;
-        if !keys.can_verify() {
-            return Err("no key in it may verify a signature".to_string());
+        if let Some(at) = keys.uses().iter().position(|uses| !uses.verify) {
+            return Err(format!("the key at position {at} may not verify signatures"));
         }
         eprintln!("token-service: {}: keys: {}", self.name, keys.len());
         self.keys = Some(Arc::new(keys));
