@@ -41,8 +41,9 @@ static struct stat seen;
 static struct keys keys;
 static pthread_mutex_t lock = PTHREAD_MUTEX_INITIALIZER;
 
-/* Reads the text of keys, and judges it. Returns what is wrong, or NULL. */
-static const char *read_keys(struct keys *found) {
+/* Reads the text of keys, and judges it. Returns what is wrong, or NULL. A file that could not be read is tried again at the next request, and one
+   with broken keys is not. */
+static const char *read_keys(struct keys *found, const struct stat *now) {
     FILE *file = fopen(key_file, "rb");
     unsigned char uses[64];
     static char useless[64];
@@ -53,6 +54,7 @@ static const char *read_keys(struct keys *found) {
     fclose(file);
     if (!whole) return "it cannot be read, or is too long";
     enum lakhdzeva_status status = lakhdzeva_judge_keys(found->text, found->length, uses, sizeof uses, &found->count);
+    if (status != LAKHDZEVA_MEMORY) seen = *now;
     if (status) return lakhdzeva_name(status);
     for (size_t i = 0; i < found->count; i++) {
         if (uses[i] & LAKHDZEVA_MAY_VERIFY) continue;
@@ -75,8 +77,7 @@ static const char *look_again(void) {
     if (stat(key_file, &now)) return "it cannot be found";
     if (now.st_ino == seen.st_ino && now.st_size == seen.st_size && now.st_mtim.tv_sec == seen.st_mtim.tv_sec && now.st_mtim.tv_nsec == seen.st_mtim.tv_nsec)
         return NULL;
-    seen = now;
-    const char *wrong = read_keys(&found);
+    const char *wrong = read_keys(&found, &now);
     if (wrong) forget(&found);
     else {
         fprintf(stderr, "token-service: %s: keys: %zu\n", key_file, found.count);

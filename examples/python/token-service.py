@@ -11,7 +11,7 @@ while one key replaces another. The service starts if every key of it may verify
 If one of the new keys may not verify, it says so and keeps the old ones. So write a new file and rename it. A bad token is 401. What is not
 the sender's fault is 500. Put a server in front that speaks TLS.
 """
-import json, os, re, sys, time, traceback
+import json, os, re, sys, threading, time, traceback
 from http.server import BaseHTTPRequestHandler, ThreadingHTTPServer
 
 import lakhdzeva
@@ -29,7 +29,7 @@ class KeyFile:
     """The keys in a file, which are read again when the file changes."""
 
     def __init__(self, name):
-        self.name = name
+        self.name, self.lock = name, threading.Lock()
         self.seen, self.keys = self.look(), self.read()
 
     def look(self):
@@ -46,14 +46,18 @@ class KeyFile:
 
     def now(self):
         """The keys that the file has now, or had before it was broken."""
-        try:
-            seen = self.look()
-            if seen != self.seen:
-                self.seen = seen
-                self.keys = self.read()
-        except (OSError, ValueError, lakhdzeva.Refused) as fault:
-            print(f"token-service.py: {self.name} is not read again: {fault}", file=sys.stderr)
-        return self.keys
+        with self.lock:
+            try:
+                seen = self.look()
+                if seen != self.seen:
+                    self.keys = self.read()
+                    self.seen = seen
+            except (OSError, ValueError, lakhdzeva.Refused) as fault:
+                # A file that could not be read is tried again at the next request, and one with broken keys is not.
+                if not isinstance(fault, (OSError, lakhdzeva.refusals.Memory)):
+                    self.seen = seen
+                print(f"token-service.py: {self.name} is not read again: {fault}", file=sys.stderr)
+            return self.keys
 
 
 class Service(BaseHTTPRequestHandler):

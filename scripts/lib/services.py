@@ -363,13 +363,40 @@ def reads_again(built, folder):
         expect("both keys", 200, 200)
         for broken in b"", RFC7515_KEY[:-9], b'{"kty":"RSA"}', oct_key(bytes(32), alg="A256KW"), *(key_set(new, key) for key in useless_keys().values()):
             put(folder, broken)
+            said = errors().count("is not read again")
             expect(f"broken keys {broken[:20]}", 200, 200)
+            problems += [f"broken keys {broken[:20]} are not logged once"] * (errors().count("is not read again") != said + 1)
         (folder / "service.jwk").unlink()
         expect("no file", 200, 200)
-        problems += ["it does not say that they are broken"] * (errors().count("is not read again") < 4)
         put(folder, new)
         expect("the new key", 401, 200)
         check(f"{built.name}: the service reads changed keys again, and keeps the old ones if they are broken", problems)
+
+
+def reads_when_it_can(built, folder):
+    """Changes the file of the keys while the service has no descriptor to open it with. It must be read as soon as there is one."""
+    new = oct_key(bytes(range(64)), alg="HS256")
+    old_token, new_token = f"Bearer {token(claims_now())}", f"Bearer {signed(json.dumps(claims_now()).encode(), key=new).decode()}"
+    put(folder, RFC7515_KEY)
+    with started(built.service, folder, built.environment) as (port, process, errors):
+        if not port:
+            return check(f"{built.name}: the service starts", [errors()])
+        problems = [] if answer_of(port, old_token)[0] == 200 else ["the old key does not verify"]
+        put(folder, key_set(RFC7515_KEY, new))
+        # The lowest descriptor that is free is for the connection, and then there is none for the file. First the connection before is closed.
+        while True:
+            used = {int(it.name): os.readlink(it) for it in pathlib.Path(f"/proc/{process.pid}/fd").iterdir()}
+            if sum(it.startswith("socket:") for it in used.values()) == 1:
+                break
+            time.sleep(0.01)
+        most = resource.prlimit(process.pid, resource.RLIMIT_NOFILE)
+        resource.prlimit(process.pid, resource.RLIMIT_NOFILE, (min(set(range(len(used) + 1)) - set(used)) + 1, most[1]))
+        problems += ["the old keys do not stay"] * (answer_of(port, old_token)[0] != 200)
+        resource.prlimit(process.pid, resource.RLIMIT_NOFILE, most)
+        problems += ["it does not say that the file is not read"] * ("is not read again" not in errors())
+        answers = [answer_of(port, it)[0] for it in (old_token, new_token)]
+        problems += [f"the new keys are lost: {answers}"] * (answers != [200, 200])
+        check(f"{built.name}: the service reads changed keys as soon as it has a descriptor for the file", problems)
 
 
 def answers_many(built, port):
@@ -422,6 +449,7 @@ def try_service(built, folder):
         answers_many(built, port)
         check(f"{built.name}: it still runs", [] if process.poll() is None and answer_of(port, f"Bearer {made}")[0] == 200 else ["it ended"])
     reads_again(built, folder)
+    reads_when_it_can(built, folder)
     if not built.faulty:
         return left_out(f"{built.name}: a library without memory", "there is no cc")
     with started(built.faulty, folder, built.environment) as (port, _, errors):

@@ -49,12 +49,15 @@ func (file *keyFile) read() error {
 	if file.seen != nil && os.SameFile(seen, file.seen) && seen.Size() == file.seen.Size() && seen.ModTime().Equal(file.seen.ModTime()) {
 		return nil
 	}
-	file.seen = seen
 	text, err := os.ReadFile(file.name)
 	if err != nil {
 		return err
 	}
 	keys, err := lakhdzeva.NewKeys(text)
+	if !errors.Is(err, lakhdzeva.ErrMemory) {
+		// A file that could not be read is tried again at the next request, and one with broken keys is not.
+		file.seen = seen
+	}
 	if err != nil {
 		return err
 	}

@@ -41,9 +41,13 @@ impl KeyFile {
         if seen == self.seen {
             return Ok(());
         }
-        self.seen = seen;
         let text = fs::read(&self.name).map_err(|fault| fault.to_string())?;
-        let keys = Keys::new(&text).map_err(|refusal| refusal.to_string())?;
+        let keys = Keys::new(&text);
+        if !matches!(keys, Err(Refusal::Memory)) {
+            // A file that could not be read is tried again at the next request, and one with broken keys is not.
+            self.seen = seen;
+        }
+        let keys = keys.map_err(|refusal| refusal.to_string())?;
         if let Some(at) = keys.uses().iter().position(|uses| !uses.verify) {
             return Err(format!("the key at position {at} may not verify signatures"));
         }
