@@ -117,6 +117,11 @@ static const char *token_of(const char *header) {
     return header + scheme + strspn(header + scheme, " ");
 }
 
+/* Whether an error of lakhdzeva_verify is this side's fault and not the token's: 500, and not 401. The keys were judged when they were read. */
+static bool is_fault(enum lakhdzeva_status status) {
+    return status <= LAKHDZEVA_RANDOM || status == LAKHDZEVA_KEY || status == LAKHDZEVA_NO_ALGORITHM || status > LAKHDZEVA_NOT_OPENED;
+}
+
 static struct answer judge(const char *header) {
     if (!*header) return (struct answer){401, "", NULL};
     const char *token = token_of(header);
@@ -127,8 +132,7 @@ static struct answer judge(const char *header) {
     size_t length = 0;
     enum lakhdzeva_status status = lakhdzeva_verify(copy.text, copy.length, token, strlen(token), 0, payload, sizeof payload, &length);
     forget(&copy);
-    /* The keys were judged when they were read. So only memory and a buffer that is too small are this side's fault. */
-    if (status) return (struct answer){status <= LAKHDZEVA_RANDOM || status == LAKHDZEVA_KEY ? 500 : 401, lakhdzeva_name(status), NULL};
+    if (status) return (struct answer){is_fault(status) ? 500 : 401, lakhdzeva_name(status), NULL};
     struct timespec now;
     clock_gettime(CLOCK_REALTIME, &now);
     struct answer answer = {401, NULL, NULL};

@@ -1,5 +1,5 @@
-/* A lakhdzeva_verify that is put before that of the library: it has no memory for the token FAULT.FAULT.FAULT. It comes before that of the shared
-   library by LD_PRELOAD, and with WRAPPED before that of the archive by the linker's --wrap. */
+/* A lakhdzeva_verify that is put before that of the library: it refuses a token such as FAULT.FAULT.00009 with its number. It comes before that of
+   the shared library by LD_PRELOAD, and with WRAPPED before that of the archive by the linker's --wrap. */
 #define _GNU_SOURCE
 #include <dlfcn.h>
 #include <lakhdzeva.h>
@@ -20,6 +20,9 @@ enum lakhdzeva_status lakhdzeva_verify(const void *keys, size_t keys_length, con
     verify *own;
     *(void **)&own = dlsym(RTLD_NEXT, "lakhdzeva_verify");
 #endif
-    if (object_length == 17 && !memcmp(object, "FAULT.FAULT.FAULT", 17)) return LAKHDZEVA_MEMORY;
+    if (object_length == 17 && !memcmp(object, "FAULT.FAULT.", 12)) {
+        const char *digits = (const char *)object + 15;
+        return (enum lakhdzeva_status)((digits[0] - '0') * 10 + (digits[1] - '0'));
+    }
     return own(keys, keys_length, object, object_length, flags, payload, room, length);
 }

@@ -169,14 +169,14 @@ def thumbprints_of(keys: Any, hash: Any) -> List[str]:
 
 
 # The numbers that are always about the machine or the keys, and those that may be about the keys or the token.
-_FAULTS = range(1, 6)
+_FAULTS = (1, 2, 3, 4, 5, 9, 13)
 _EITHER = (7, 8, 15)
-_KEY, _KEY_DOES_NOT_FIT = 9, 14
+_KEY_DOES_NOT_FIT, _LAST = 14, 17
 
 
 def blamed(status: int, keys: Any = None, verifying: bool = False) -> Refused:
     """The exception for a call with a token. If it may be about keys that nobody has judged, they are judged now."""
-    parent: Type[Refused] = Fault if status in _FAULTS or status == _KEY else BadToken
+    parent: Type[Refused] = Fault if status in _FAULTS or status > _LAST else BadToken
     if status in _EITHER and keys is not None and not issubclass(type(keys), Keys):
         try:
             _judged(_text_of(keys))
