@@ -2,8 +2,8 @@
 
      cc -O2 -shared -fPIC -I/usr/include/node lakhdzeva.c -o lakhdzeva.node $(pkg-config --cflags --libs lakhdzeva)
 
-   Each text is a Buffer. Each answer is a new Buffer. A refusal is thrown as an Error with the members `code`, such as "NotOpened", and
-   `number`. */
+   Each text is a Buffer. Each answer is a new Buffer, but for that of judgeKeys and of verifySigner. A refusal is thrown as an Error with the
+   members `code`, such as "NotOpened", and `number`. */
 #include <lakhdzeva.h>
 #include <node_api.h>
 #include <stdlib.h>
@@ -69,6 +69,32 @@ static napi_value verify(napi_env env, napi_callback_info info) {
     return answer(env, status, place, length);
 }
 
+/* Gives an object with the payload, and with the position in the set of the key that signed: {payload, signer}. */
+static napi_value verify_signer(napi_env env, napi_callback_info info) {
+    struct text of[2]; /* keys, token */
+    if (!read_texts(env, info, 2, of)) return NULL;
+    size_t room = lakhdzeva_verify_room(of[1].length), length = 0, at = 0;
+    void *place = malloc(room + !room);
+    enum lakhdzeva_status status = LAKHDZEVA_MEMORY;
+    if (place) status = lakhdzeva_verify_signer(of[0].octets, of[0].length, of[1].octets, of[1].length, place, room, &length, &at);
+    napi_value payload = answer(env, status, place, length), signer, result;
+    if (!payload || napi_create_object(env, &result) != napi_ok || napi_create_uint32(env, (uint32_t)at, &signer) != napi_ok
+        || napi_set_named_property(env, result, "payload", payload) != napi_ok || napi_set_named_property(env, result, "signer", signer) != napi_ok)
+        return NULL;
+    return result;
+}
+
+/* Gives a Buffer of one byte for each member of the set: the sum of enum lakhdzeva_uses that hold, such as 2 for a key that may verify. */
+static napi_value judge_keys(napi_env env, napi_callback_info info) {
+    struct text keys;
+    if (!read_texts(env, info, 1, &keys)) return NULL;
+    size_t room = lakhdzeva_judge_keys_room(keys.length), length = 0;
+    void *place = malloc(room + !room);
+    enum lakhdzeva_status status = LAKHDZEVA_MEMORY;
+    if (place) status = lakhdzeva_judge_keys(keys.octets, keys.length, place, room, &length);
+    return answer(env, status, place, length);
+}
+
 static napi_value decrypt(napi_env env, napi_callback_info info) {
     struct text of[2]; /* keys, token */
     if (!read_texts(env, info, 2, of)) return NULL;
@@ -83,7 +109,7 @@ NAPI_MODULE_INIT() {
     const struct {
         const char *name;
         napi_callback function;
-    } all[] = {{"thumbprints", thumbprints}, {"sign", sign}, {"verify", verify}, {"decrypt", decrypt}};
+    } all[] = {{"judgeKeys", judge_keys}, {"thumbprints", thumbprints}, {"sign", sign}, {"verify", verify}, {"verifySigner", verify_signer}, {"decrypt", decrypt}};
     for (size_t i = 0; i < sizeof all / sizeof *all; i++) {
         napi_value function;
         if (napi_create_function(env, all[i].name, NAPI_AUTO_LENGTH, all[i].function, NULL, &function) != napi_ok

@@ -6,11 +6,15 @@ const fs = require("node:fs");
 const lakhdzeva = require("./lakhdzeva.node");
 
 // The refusals that are about this machine or the keys. With keys that were judged, each other one is about the token.
-const FAULTS = ["Usage", "Read", "Write", "Memory", "Random", "Key"];
+const FAULTS = ["Usage", "Read", "Write", "Memory", "Random", "Key", "NoAlgorithm"];
+// LAKHDZEVA_MAY_VERIFY in lakhdzeva.h.
+const MAY_VERIFY = 2;
 
 function main([keysFile, tokenFile]) {
     const keys = fs.readFileSync(keysFile);
-    lakhdzeva.thumbprints(keys); // Broken keys end the program here.
+    // Broken keys end the program here, and so does a key of a set that may not verify.
+    const at = lakhdzeva.judgeKeys(keys).findIndex((uses) => !(uses & MAY_VERIFY));
+    if (at >= 0) throw new Error(`${keysFile}: the key at position ${at} may not verify signatures`);
     try {
         process.stdout.write(lakhdzeva.verify(keys, fs.readFileSync(tokenFile)));
     } catch (error) {

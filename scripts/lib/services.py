@@ -1,5 +1,5 @@
-"""Tries what examples/ has for services, with an installed library: the judges of claims in Python, Go, Rust and C with the cases of
-examples/claims/cases.json, and the web services in these languages with tokens that Python's hmac signed. The code that the pages for services
+"""Tries what examples/ has for services, with an installed library: the judges of claims in Python, Go, Rust, C and JavaScript with the cases of
+examples/claims/cases.json, and the web services in these languages but JavaScript with tokens that Python's hmac signed. The code that the pages for services
 show is compared with the examples, or run.
 """
 import asyncio, concurrent.futures, contextlib, http.client, json, os, pathlib, re, resource, shutil, subprocess, sys, tempfile, time
@@ -18,7 +18,8 @@ AT_ONCE = 1000
 
 
 class Built:
-    """What was built of a language: the words of the judge and of the service, their environment, and what makes a library that refuses."""
+    """What was built of a language: the words of the judge and of the service, their environment, and what makes a library that refuses. There is
+    no service for Node."""
 
     def __init__(self, name, judge, service, environment, faulty=None):
         self.name, self.judge, self.service, self.environment, self.faulty = name, judge, service, environment, faulty
@@ -106,6 +107,23 @@ def in_rust(work, usr, environment):
     yield Built("Rust", [work / "rust-service/debug/judge"], [service], environment, faulty)
 
 
+def node_module(here, environment):
+    """Copies examples/node, and builds its module there. Returns whether it is built."""
+    headers = [it for it in (pathlib.Path("/usr/include/node"), pathlib.Path("/usr/include/nodejs/src")) if (it / "node_api.h").exists()]
+    if not shutil.which("node") or not headers or not shutil.which("pkg-config") or not shutil.which("cc"):
+        return left_out("the module for Node", "there is no node with its headers (libnode-dev), no pkg-config or no cc")
+    shutil.copytree(EXAMPLES / "node", here)
+    flags = run("pkg-config", "--cflags", "--libs", "lakhdzeva", env=environment)[1].split()
+    words = ["-O2", "-Wall", "-Wextra", "-Wpedantic", "-Werror", "-shared", "-fPIC", f"-I{headers[0]}", "lakhdzeva.c", "-o", "lakhdzeva.node", *flags]
+    return shows("the module for Node compiles", "cc", *words, cwd=here)
+
+
+def in_node(work, usr, environment):
+    here = work / "node-claims"
+    if node_module(here, environment):
+        yield Built("Node", ["node", JUDGES / "judge.js", here / "lakhdzeva.node"], None, environment)
+
+
 # ---- claims
 
 
@@ -166,7 +184,7 @@ def try_pyjwt():
 def check_lengths():
     """Checks that the judge of each language is one function of at most fifty lines, and that the page shows Python's."""
     begins = {"python/claims.py": r"^def claims_of.*?(?=\n\n\n|\Z)", "go/token-service/claims.go": r"^func claimsOf.*?^}", "rust/token-service/src/claims.rs": r"^pub fn claims_of.*?^}",
-              "c/claims.c": r"^const char \*claims_of.*?^}"}
+              "c/claims.c": r"^const char \*claims_of.*?^}", "node/claims.js": r"^function claimsOf.*?^}"}
     for name, pattern in begins.items():
         found = re.search(pattern, (EXAMPLES / name).read_text(), re.M | re.S)
         lines = found[0].rstrip().count("\n") + 1 if found else 0
@@ -473,7 +491,7 @@ def building(work, usr, environment):
     """Builds the judges and the services of the languages while other things are tried. Gives a function that waits for them and tries them, with
     the library that is installed in `usr`. The Python package may be installed by then in another folder."""
     with concurrent.futures.ThreadPoolExecutor(2) as pool:
-        builds = [pool.submit(lambda language: list(language(work, usr, environment)), language) for language in (in_go, in_rust, in_c)]
+        builds = [pool.submit(lambda language: list(language(work, usr, environment)), language) for language in (in_go, in_rust, in_c, in_node)]
         yield lambda environment: try_all(environment, builds)
 
 
@@ -487,4 +505,5 @@ def try_all(environment, builds):
     for built in [*in_python(environment), *(it for build in builds for it in build.result())]:
         with tempfile.TemporaryDirectory() as folder:
             try_claims(built)
-            try_service(built, pathlib.Path(folder))
+            if built.service:
+                try_service(built, pathlib.Path(folder))

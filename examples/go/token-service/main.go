@@ -40,6 +40,20 @@ type keyFile struct {
 	keys  *lakhdzeva.Keys
 }
 
+// judged returns the keys of this text, if each of them may verify signatures.
+func judged(text []byte) (*lakhdzeva.Keys, error) {
+	keys, err := lakhdzeva.NewKeys(text)
+	if err != nil {
+		return nil, err
+	}
+	for at, uses := range keys.Uses() {
+		if !uses.Verify {
+			return nil, fmt.Errorf("the key at position %d may not verify signatures", at)
+		}
+	}
+	return keys, nil
+}
+
 // read reads the keys, if the file is not the one that was read.
 func (file *keyFile) read() error {
 	seen, err := os.Stat(file.name)
@@ -53,18 +67,13 @@ func (file *keyFile) read() error {
 	if err != nil {
 		return err
 	}
-	keys, err := lakhdzeva.NewKeys(text)
+	keys, err := judged(text)
 	if !errors.Is(err, lakhdzeva.ErrMemory) {
 		// A file that could not be read is tried again at the next request, and one with broken keys is not.
 		file.seen = seen
 	}
 	if err != nil {
 		return err
-	}
-	for at, uses := range keys.Uses() {
-		if !uses.Verify {
-			return fmt.Errorf("the key at position %d may not verify signatures", at)
-		}
 	}
 	log.Printf("%s: keys: %d", file.name, keys.Len())
 	file.keys = keys

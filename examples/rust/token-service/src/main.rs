@@ -33,6 +33,15 @@ struct KeyFile {
     keys: Option<Arc<Keys>>,
 }
 
+/// The keys of this text, if each of them may verify signatures.
+fn judged(text: &[u8]) -> Result<Keys, String> {
+    let keys = Keys::new(text).map_err(|refusal| refusal.to_string())?;
+    if let Some(at) = keys.uses().iter().position(|uses| !uses.verify) {
+        return Err(format!("the key at position {at} may not verify signatures"));
+    }
+    Ok(keys)
+}
+
 impl KeyFile {
     /// Reads the keys, if the file is not the one that was read.
     fn read(&mut self) -> Result<(), String> {
@@ -42,15 +51,12 @@ impl KeyFile {
             return Ok(());
         }
         let text = fs::read(&self.name).map_err(|fault| fault.to_string())?;
-        let keys = Keys::new(&text);
-        if !matches!(keys, Err(Refusal::Memory)) {
+        let keys = judged(&text);
+        if keys.as_ref().err() != Some(&Refusal::Memory.to_string()) {
             // A file that could not be read is tried again at the next request, and one with broken keys is not.
             self.seen = seen;
         }
-        let keys = keys.map_err(|refusal| refusal.to_string())?;
-        if let Some(at) = keys.uses().iter().position(|uses| !uses.verify) {
-            return Err(format!("the key at position {at} may not verify signatures"));
-        }
+        let keys = keys?;
         eprintln!("token-service: {}: keys: {}", self.name, keys.len());
         self.keys = Some(Arc::new(keys));
         Ok(())
