@@ -1,6 +1,5 @@
 """The claims of a JWT (RFC 7519) whose signature was verified. Copy the function, and call it after `verify`:
 
-    token = token.encode()
     claims = claims_of(token, lakhdzeva.verify(keys, token), time.time(), issuer="login", audience="api")
 """
 import base64, json, math, re
@@ -9,8 +8,8 @@ COMPACT = re.compile(rb"([A-Za-z0-9_-]+)\.[A-Za-z0-9_-]+\.[A-Za-z0-9_-]+")
 
 
 def claims_of(token, payload, now, *, issuer=None, audience=None, typ=None, leeway=0):
-    """The claims in the payload of this token, which was verified, at this time in seconds since 1970. If a claim is wrong, a ValueError names
-    it: form, claims, typ, exp, nbf, iss or aud. `exp` must be there. An `aud` must not be there unless an audience is expected."""
+    """The claims in the payload of this token (str or bytes), which was verified, at this time in seconds since 1970. If a claim is wrong, a
+    ValueError names it: form, claims, typ, exp, nbf, iss or aud. `exp` must be there. An `aud` must not be there unless an audience is expected."""
 
     def number(text):
         value = float(text)
@@ -24,7 +23,8 @@ def claims_of(token, payload, now, *, issuer=None, audience=None, typ=None, leew
     def media_type(text):
         return text.encode().lower().removeprefix(b"application/") if type(text) is str else None
 
-    compact = COMPACT.fullmatch(token)
+    # What is no character of ASCII becomes a question mark, which no token has.
+    compact = COMPACT.fullmatch(token.encode("ascii", "replace") if type(token) is str else token)
     if not compact:
         raise ValueError("form")
     try:
