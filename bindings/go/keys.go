@@ -9,7 +9,7 @@ import (
 )
 
 // Keys is one key or a set of keys that was checked when it was read: in each error of its methods that is not a Fault, the token is at fault,
-// or what is signed or encrypted. Any number of goroutines may use it at once.
+// or what is signed or encrypted. Each call reads its text again. Any number of goroutines may use it at once.
 //
 // A service that verifies tokens asks one thing when it starts, and ends if a key may not verify:
 //

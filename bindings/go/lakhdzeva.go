@@ -2,7 +2,7 @@
 // their thumbprints (RFC 7638), with octet keys. It calls the proved library lakhdzeva by cgo, which makes all decisions.
 //
 // A service reads its keys once, when it starts, as [Keys]: they are checked then, so that a later error is about the token. Each function here
-// takes the JSON text of keys instead, and reads it again at each call.
+// takes the JSON text of keys instead. Each call reads the text of the keys again, that of Keys too.
 //
 // pkg-config says where the header and the library are. With the build tag lakhdzeva_flags, CGO_CFLAGS and CGO_LDFLAGS say it instead.
 //

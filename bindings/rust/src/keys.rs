@@ -1,7 +1,7 @@
 use crate::{Form, Hash, Refusal, Signers};
 use std::fmt;
 
-/// One key or a set of keys, which was checked when it was read.
+/// One key or a set of keys, which was checked when it was read. Each call reads its text again.
 ///
 /// So a refusal of its methods is about the token, or about what is signed or encrypted, unless it [is a fault](Refusal::is_fault) of the machine.
 /// A service that verifies tokens asks one thing when it starts, and ends if a key may not verify:

@@ -11,8 +11,8 @@
 
 The shared library ``liblakhdzeva.so.3`` does the work. This module passes bytes to it and decides nothing.
 
-- ``keys`` is ``Keys``, which a service makes once, when it starts. It can also be one key, or a set of keys, which each call reads again: a
-  dict, a list of dicts, or a JSON text (``str`` or ``bytes``), which is passed as it is.
+- ``keys`` is ``Keys``, which a service makes once, when it starts. It can also be one key, or a set of keys: a dict, a list of dicts, or a
+  JSON text (``str`` or ``bytes``), which is passed as it is. Each call reads the text of the keys again, that of ``Keys`` too.
 - ``template`` is a dict or a JSON text: the headers of a token, or the members of a key. ``None`` means ``{}``, which lets the keys decide.
 - A token is a ``str``, ``bytes``, or the dict of its JSON form. A function that makes a token returns a ``str``.
 - A payload, a plaintext and a ciphertext are bytes: ``bytes``, ``bytearray`` or ``memoryview``.

@@ -63,7 +63,7 @@ def uses_of(keys: Any) -> List[KeyUses]:
 
 
 class Keys:
-    """One key or a set of keys, which is checked here and not at each call.
+    """One key or a set of keys, which is checked when it is made. Each call reads its text again.
 
     ``keys`` is a dict, a list of dicts, or the JSON text of a key or of a set. ``Keys.from_file`` reads this text from a file, and
     ``Keys.from_secret`` makes a key from the bytes of a secret. A text that has no valid key, or more than 64, is refused as a ``Fault``.
