@@ -63,8 +63,9 @@ func ReadKeys(name string) (*Keys, error) {
 	return keys, nil
 }
 
-// KeysFromSecret makes a key from the bytes of a secret that both sides share, for one algorithm, such as "HS256". A secret that is too short
-// for the algorithm is refused with ErrKeyDoesNotFit: HS256 needs 32 bytes (RFC 7518, section 3.2).
+// KeysFromSecret makes a key from the bytes of a secret that both sides share, for one algorithm, such as "HS256". ErrKeyDoesNotFit
+// has two causes: the algorithm does not take a secret of this length (HS256 needs 32 bytes, RFC 7518, section 3.2), or no algorithm has this
+// name, such as "hs256" and "RS256". An empty secret is refused with ErrKey.
 func KeysFromSecret(secret []byte, alg string) (*Keys, error) {
 	text, err := json.Marshal(map[string]string{"kty": "oct", "alg": alg, "k": base64.RawURLEncoding.EncodeToString(secret)})
 	if err != nil {

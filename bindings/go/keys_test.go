@@ -81,9 +81,9 @@ func TestBrokenKeys(t *testing.T) {
 			t.Errorf("%v: got %v and %v", secret, keys, err)
 		}
 	}
-	for _, alg := range []string{"RS256", "none", "", "HS257"} {
-		if keys, err := KeysFromSecret(make([]byte, 32), alg); err == nil || keys != nil {
-			t.Errorf("%s: got %v", alg, keys)
+	for _, alg := range []string{"RS256", "none", "", "HS257", "hs256", "HS256\""} {
+		if keys, err := KeysFromSecret(make([]byte, 32), alg); !errors.Is(err, ErrKeyDoesNotFit) || keys != nil {
+			t.Errorf("%s: got %v and %v", alg, keys, err)
 		}
 	}
 	for _, alg := range []string{"A256KW", "A256GCM", "PBES2-HS256+A128KW"} {

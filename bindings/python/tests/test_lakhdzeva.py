@@ -550,8 +550,7 @@ class Judged(Case):
             self.blames(Fault, 14, lakhdzeva.Keys.from_secret, secret, alg)
         self.blames(Fault, 9, lakhdzeva.Keys.from_secret, b"", "HS256")
         for alg in ("RS256", "none", "", "HS257", "hs256"):
-            with self.assertRaises(Fault):
-                lakhdzeva.Keys.from_secret(bytes(32), alg)
+            self.blames(Fault, 14, lakhdzeva.Keys.from_secret, bytes(32), alg)
         with self.assertRaisesRegex(TypeError, "must be octets, not str"):
             lakhdzeva.Keys.from_secret("a secret", "HS256")
         with self.assertRaisesRegex(TypeError, "alg must be a str"):

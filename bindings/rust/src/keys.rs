@@ -86,8 +86,9 @@ impl Keys {
 
     /// Makes a key from the bytes of a secret that both sides share, for one algorithm, such as `HS256`.
     ///
-    /// A secret that is too short for the algorithm is [`KeyDoesNotFit`](Refusal::KeyDoesNotFit): `HS256` needs 32 bytes (RFC 7518 section 3.2).
-    /// An `alg` that is no name of an algorithm is [`Unsupported`](Refusal::Unsupported).
+    /// [`KeyDoesNotFit`](Refusal::KeyDoesNotFit) has two causes: the algorithm does not take a secret of this length (`HS256` needs 32 bytes, RFC
+    /// 7518 section 3.2), or no algorithm has this name, such as `hs256` and `RS256`. An empty secret is [`Key`](Refusal::Key). An `alg` with
+    /// characters other than letters and digits of ASCII, `-` and `+` is [`Unsupported`](Refusal::Unsupported).
     pub fn from_secret(secret: &[u8], alg: &str) -> Result<Keys, Refusal> {
         let known = |octet: u8| octet.is_ascii_alphanumeric() || octet == b'-' || octet == b'+';
         if !alg.bytes().all(known) {

@@ -58,8 +58,13 @@ fn secrets_of_octets() {
         assert_eq!(refused, Refusal::KeyDoesNotFit, "{alg}");
     }
     assert_eq!(Keys::from_secret(b"", "HS256").unwrap_err(), Refusal::Key);
-    for alg in ["RS256", "none", "", "HS257", "HS256\"", "\\", "HS256 "] {
-        assert!(Keys::from_secret(&[7; 32], alg).is_err(), "{alg}");
+    for alg in ["RS256", "none", "", "HS257", "hs256"] {
+        let refused = Keys::from_secret(&[7; 32], alg).unwrap_err();
+        assert_eq!(refused, Refusal::KeyDoesNotFit, "{alg}");
+    }
+    for alg in ["HS256\"", "\\", "HS256 "] {
+        let refused = Keys::from_secret(&[7; 32], alg).unwrap_err();
+        assert_eq!(refused, Refusal::Unsupported, "{alg}");
     }
     for alg in ["HS256", "A256KW", "A256GCM", "PBES2-HS256+A128KW"] {
         // The text of a key has the octets again, of each length of base64url.

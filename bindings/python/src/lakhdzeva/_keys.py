@@ -99,8 +99,9 @@ class Keys:
         """Makes a key from the bytes of a secret that both sides share, for one algorithm, such as ``HS256``.
 
         A secret that somebody gave as text is encoded as its sender encodes it: ``text.encode()`` for the characters themselves,
-        ``bytes.fromhex(text)`` for hexadecimal digits. A secret that is too short for the algorithm is refused with KeyDoesNotFit: HS256
-        needs 32 bytes (RFC 7518, section 3.2).
+        ``bytes.fromhex(text)`` for hexadecimal digits. KeyDoesNotFit has two causes: the algorithm
+        does not take a secret of this length (HS256 needs 32 bytes, RFC 7518, section 3.2), or no algorithm has this name, such as ``hs256``
+        and ``RS256``. An empty secret is refused with Key.
         """
         octets = _arguments.octets("secret", secret)
         if type(alg) is not str:
