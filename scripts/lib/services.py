@@ -59,6 +59,14 @@ def in_c(work, usr, environment):
         shows("token-service.c compiles", "cc", *STRICT, "-O2", EXAMPLES / "c/token-service.c", *claims, *flags, "-pthread", "-o", service),
         shows("a library that refuses compiles", "cc", *STRICT, "-shared", "-fPIC", JUDGES / "false_verify.c", *flags, "-ldl", "-o", false),
     ]
+    secrets = work / "secrets-c"
+    if shows("key_of_secret.c compiles, with the sanitizers", "cc", *sanitized, JUDGES / "keys_of_secrets.c", EXAMPLES / "c/key_of_secret.c", *flags, "-o", secrets):
+        wanted = []
+        for length in range(100):
+            key = {"kty": "oct", "alg": "HS256", "k": b64(bytes((at * 37 + 251 + length) % 256 for at in range(length))).decode()}
+            wanted.append(f"{json.dumps(key, separators=(',', ':'))}\t{0 if length else 9}\t{2 * (length >= 32)}")
+        printed = run(secrets, env=environment)[1].splitlines()
+        check(f"key_of_secret.c makes the keys of {len(wanted)} secrets", [f"{it}, and not {other}" for it, other in zip(printed, wanted) if it != other][:3] + [f"{len(printed)} lines"] * (len(printed) != len(wanted)))
     if all(built):
         yield Built("C", [judge], [service], environment, ["env", f"LD_PRELOAD={false}", service])
 
