@@ -40,7 +40,7 @@ class KeyFile:
         keys = lakhdzeva.Keys.from_file(self.name)
         for at, uses in enumerate(keys.uses):
             if not uses.verify:
-                raise ValueError(f"the key at position {at} may not verify signatures")
+                raise ValueError(f"{self.name}: the key at position {at} may not verify signatures")
         print(f"token-service.py: {self.name}: keys: {len(keys)}", file=sys.stderr)
         return keys
 
@@ -56,7 +56,7 @@ class KeyFile:
                 # A file that could not be read is tried again at the next request, and one with broken keys is not.
                 if not isinstance(fault, (OSError, lakhdzeva.refusals.Memory)):
                     self.seen = seen
-                print(f"token-service.py: {self.name} is not read again: {fault}", file=sys.stderr)
+                print(f"token-service.py: the file of the keys is not read again: {fault}", file=sys.stderr)
             return self.keys
 
 
@@ -114,7 +114,8 @@ def main():
         # Broken keys end the service here, and not at each request.
         keys = KeyFile(name)
     except (OSError, ValueError, lakhdzeva.Refused) as fault:
-        sys.exit(f"token-service.py: {name}: {fault}")
+        # Each of them names the file.
+        sys.exit(f"token-service.py: {fault}")
     server = Server(("127.0.0.1", int(port)), Service)
     server.keys, server.issuer, server.audience = keys, issuer, audience
     print(f"listening on port {server.server_address[1]}", flush=True)

@@ -358,7 +358,7 @@ def refuses_broken_keys(built, folder):
         if keys is not None:
             (folder / "broken.jwk").write_bytes(keys)
         with started(built.service, folder, built.environment, "broken.jwk") as (port, process, errors):
-            if port or process.returncode != 1 or not re.fullmatch(r"token-service(\.py)?: broken.jwk: .*\n", errors()) or "Traceback" in errors() \
+            if port or process.returncode != 1 or not re.fullmatch(r"token-service(\.py)?: .*broken\.jwk.*\n", errors()) or "Traceback" in errors() \
                     or ("at 1" in what and "at position 1 " not in errors()):
                 problems.append(f"{what}: {port}, {process.returncode}, {errors()[-300:]!r}")
     check(f"{built.name}: the service does not start with {len(rows)} kinds of broken keys", problems)

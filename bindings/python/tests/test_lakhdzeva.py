@@ -473,6 +473,20 @@ class Judged(Case):
             self.assertEqual((len(keys), keys.thumbprints()), (2, lakhdzeva.thumbprints(two)))
             self.assertEqual(lakhdzeva.verify(keys, token), b"hi")
 
+    def test_a_broken_file_is_named(self):
+        with tempfile.TemporaryDirectory() as folder:
+            name = f"{folder}/keys"
+            for text, number in self.BROKEN:
+                Path(name).write_text(text)
+                for path in (name, Path(name)):
+                    with self.assertRaises(Fault) as caught:
+                        lakhdzeva.Keys.from_file(path)
+                    for it in (caught.exception, pickle.loads(pickle.dumps(caught.exception)), copy.copy(caught.exception)):
+                        self.assertEqual((str(it), it.number, it.file, type(it)), (f"{name}: {number} {it.name}", number, name, type(caught.exception)))
+                with self.assertRaises(Fault) as caught:
+                    lakhdzeva.Keys(text)
+                self.assertEqual((str(caught.exception), caught.exception.file), (f"{number} {caught.exception.name}", None))
+
     def test_every_function_takes_keys(self):
         keys, wrap = lakhdzeva.Keys(self.ONE), lakhdzeva.Keys(A128)
         self.assertEqual(lakhdzeva.verify(keys, lakhdzeva.sign(keys, b"hi")), b"hi")

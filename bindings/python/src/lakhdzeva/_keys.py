@@ -91,8 +91,16 @@ class Keys:
 
     @classmethod
     def from_file(cls, path: Union[str, "os.PathLike[str]"]) -> "Keys":
-        """Reads the JSON text of a key or of a set from a file. A file that cannot be read is an OSError."""
-        return cls(Path(path).read_bytes())
+        """Reads the JSON text of a key or of a set from a file. A file that cannot be read is an OSError.
+
+        The text of a refusal begins with the name of the file, such as ``service.jwk: 7 Json``, which is its member ``file`` too.
+        """
+        text = Path(path).read_bytes()
+        try:
+            return cls(text)
+        except Refused as problem:
+            problem.file = os.fsdecode(path)
+            raise
 
     @classmethod
     def from_secret(cls, secret: Octets, alg: str, kid: str = "") -> "Keys":

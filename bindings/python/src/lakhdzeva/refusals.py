@@ -43,10 +43,14 @@ __all__ = [
 
 
 class Refused(Exception):
-    """The library refused a call. The text is the number and the name, such as ``17 NotOpened``."""
+    """The library refused a call. The text is the number and the name, such as ``17 NotOpened``.
+
+    The text of a refusal of ``Keys.from_file`` begins with the name of the file, ``file``, which is ``None`` otherwise.
+    """
 
     number: int
     name: str
+    file: Optional[str] = None
 
     def __init__(self, number: Optional[int] = None) -> None:
         self.number = self.number if number is None else number
@@ -54,7 +58,7 @@ class Refused(Exception):
         self.name = _library.name_of(self.number).decode()
 
     def __str__(self) -> str:
-        return f"{self.number} {self.name}"
+        return f"{self.file}: {self.number} {self.name}" if self.file else f"{self.number} {self.name}"
 
     def __repr__(self) -> str:
         parent = next((it.__name__ for it in (BadToken, Fault) if isinstance(self, it)), "Refused")
@@ -62,7 +66,7 @@ class Refused(Exception):
 
     def __reduce__(self) -> Tuple[Any, ...]:
         parent = next((it for it in (BadToken, Fault) if isinstance(self, it)), None)
-        return (refused, (self.number, parent)) if parent else (type(self), (self.number,))
+        return (refused, (self.number, parent), vars(self)) if parent else (type(self), (self.number,), vars(self))
 
 
 class BadToken(Refused):
