@@ -13,15 +13,15 @@ import (
 //
 // A service that verifies tokens asks one thing when it starts, and ends if a key may not verify:
 //
-//	for at, uses := range keys.Uses() {
-//		if !uses.Verify {
-//			return fmt.Errorf("the key at position %d may not verify signatures", at)
+//		for at, uses := range keys.Uses() {
+//			if !uses.Verify {
+//				return fmt.Errorf("the key at position %d may not verify signatures", at)
+//			}
 //		}
-//	}
 //
-//   - To verify and to decrypt, a key of a set that may not is skipped, and each token that it signed is ErrNotOpened. Len is the number of the
-//     valid keys, and Good is such a key. A valid key need not be usable: one of 5 bytes for HS256 verifies nothing.
-//   - CanSign, CanVerify, CanEncrypt and CanDecrypt say whether one of them may. To sign and to encrypt, all of them must.
+//	  - To verify and to decrypt, a key of a set that may not is skipped, and each token that it signed is ErrNotOpened. Len is the number of the
+//	    valid keys, and Good is such a key. A valid key need not be usable: one of 5 bytes for HS256 verifies nothing.
+//	  - CanSign, CanVerify, CanEncrypt and CanDecrypt say whether one of them may. To sign and to encrypt, all of them must.
 //
 // What fmt prints of it has no secret and no thumbprint.
 type Keys struct {
