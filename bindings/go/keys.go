@@ -11,17 +11,16 @@ import (
 // Keys is one key or a set of keys that was checked when it was read: in each error of its methods that is not a Fault, the token is at fault,
 // or what is signed or encrypted. Each call reads its text again. Any number of goroutines may use it at once.
 //
-// A service that verifies tokens asks one thing when it starts, and ends if a key may not verify:
+// To verify and to decrypt, a key of a set that may not is skipped, and each token that it signed is ErrNotOpened. Len is the number of the valid
+// keys, and Good is such a key. A valid key need not be usable: one of 5 bytes for HS256 verifies nothing. CanSign, CanVerify, CanEncrypt and
+// CanDecrypt say whether one of the keys may. To sign and to encrypt, all of them must. A service that verifies tokens asks one thing when it
+// starts, and ends if a key may not verify:
 //
-//		for at, uses := range keys.Uses() {
-//			if !uses.Verify {
-//				return fmt.Errorf("the key at position %d may not verify signatures", at)
-//			}
+//	for at, uses := range keys.Uses() {
+//		if !uses.Verify {
+//			return fmt.Errorf("the key at position %d may not verify signatures", at)
 //		}
-//
-//	  - To verify and to decrypt, a key of a set that may not is skipped, and each token that it signed is ErrNotOpened. Len is the number of the
-//	    valid keys, and Good is such a key. A valid key need not be usable: one of 5 bytes for HS256 verifies nothing.
-//	  - CanSign, CanVerify, CanEncrypt and CanDecrypt say whether one of them may. To sign and to encrypt, all of them must.
+//	}
 //
 // What fmt prints of it has no secret and no thumbprint.
 type Keys struct {
