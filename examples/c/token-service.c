@@ -50,9 +50,10 @@ static const char *read_keys(struct keys *found, const struct stat *now) {
     if (!file) return "it cannot be read";
     found->text = malloc(MOST_KEYS);
     found->length = found->text ? fread(found->text, 1, MOST_KEYS, file) : 0;
-    bool whole = found->text && feof(file) && !ferror(file);
+    bool failed = !found->text || ferror(file), whole = feof(file);
     fclose(file);
-    if (!whole) return "it cannot be read, or is too long";
+    if (failed) return "it cannot be read";
+    if (!whole) return seen = *now, "it is too long";
     enum lakhdzeva_status status = lakhdzeva_judge_keys(found->text, found->length, uses, sizeof uses, &found->count);
     if (status != LAKHDZEVA_MEMORY) seen = *now;
     if (status) return lakhdzeva_name(status);

@@ -387,7 +387,7 @@ def reads_again(built, folder):
         expect("the old key", 200, 401)
         put(folder, key_set(RFC7515_KEY, new))
         expect("both keys", 200, 200)
-        for broken in b"", RFC7515_KEY[:-9], b'{"kty":"RSA"}', oct_key(bytes(32), alg="A256KW"), *(key_set(new, key) for key in useless_keys().values()):
+        for broken in b"", b"x" * (2 << 20), RFC7515_KEY[:-9], b'{"kty":"RSA"}', oct_key(bytes(32), alg="A256KW"), *(key_set(new, key) for key in useless_keys().values()):
             put(folder, broken)
             said = errors().count("is not read again")
             expect(f"broken keys {broken[:20]}", 200, 200)
