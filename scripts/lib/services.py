@@ -410,7 +410,7 @@ def reads_when_it_can(built, folder):
         problems = [] if answer_of(port, old_token)[0] == 200 else ["the old key does not verify"]
         put(folder, key_set(RFC7515_KEY, new))
         # The lowest descriptor that is free is for the connection, and then there is none for the file. First the connection before is closed.
-        while True:
+        for _ in range(1000):
             used = {int(it.name): os.readlink(it) for it in pathlib.Path(f"/proc/{process.pid}/fd").iterdir()}
             if sum(it.startswith("socket:") for it in used.values()) == 1:
                 break
