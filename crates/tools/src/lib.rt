@@ -6,21 +6,34 @@
 #![tactic(auto)]
 
 ghost use Rattle.std.specs.Prelude.{◌≡◌, ◌⊎◌, ℕ, List, map, string_bytes, Result as Answer, Err};
-ghost use Rattle.octets.specs.declared.refusal.Refusal.{Refusal as Kind};
+ghost use Rattle.octets.specs.declared.refusal.Refusal.{Refusal as Refused};
 ghost use Rattle.jose.specs.System.{AreHeld};
 ghost use Rattle.tools.specs.Runs.{Performs, VerifiesAsAsked};
 
 mod cause;
+mod changing;
 mod ending;
+mod holding;
+mod joining;
 pub mod laws;
+mod put_files;
+mod removing;
+mod replacing;
+mod set_cause;
+mod set_words;
+mod sets;
 mod verifying;
 mod words;
 
 use crate::words::tool_of;
 pub use cause::Cause;
+pub use changing::change_set;
 pub use ending::report;
 use jose::{System, inputs, outputs, placeholders};
 use octets::{Refusal, WriterOutput};
+pub use put_files::{Kind, NotCreated, PutFiles};
+pub use set_cause::{Place, SetCause, Thumbprint, Why};
+pub use set_words::{SetRequest, parse_set};
 use std::alloc::Global;
 use std::io::{Stdin, Stdout};
 use std::os::fd::AsRawFd;
@@ -32,7 +45,7 @@ pub use words::{Tool, VerifyAllRequest, parse_verify_all};
 fn perform<S: System>(alloc: Global, system: &S, stdin: Stdin, stdout: Stdout) -> Result<(), Cause>
 where
     S::File: AsRawFd,
-    ensures { result ≡ Err (Cause.Refused Refusal.Memory) ⊎ ((args : Answer (List (List ℕ)) Kind) × (S.args_gives system.now args × Performs S S.Uncut S.File args result)) }
+    ensures { result ≡ Err (Cause.Refused Refusal.Memory) ⊎ ((args : Answer (List (List ℕ)) Refused) × (S.args_gives system.now args × Performs S S.Uncut S.File args result)) }
 {
     let held = placeholders(system)?;
     let args = system.args()?;

@@ -1,0 +1,18 @@
+-- What values of the code hold, as contracts see it.
+use Rattle.std.specs.Prelude.{List, [], ◌∷◌, ◌++◌}
+use Rattle.serde_json.specs.View.{items_view}
+use Rattle.keys.specs.Keys.{OctetKey}
+use Rattle.tools.specs.declared.sets.HeldSet.{HeldSet}
+use Rattle.tools.specs.declared.sets.JoinedSet.{JoinedSet}
+use Rattle.tools.specs.Sets.{HeldKeys, JoinedKeys}
+
+-- the keys of all sets, in order
+abbrev pub all_keys : List (List OctetKey) → List OctetKey
+all_keys [] = []
+all_keys (set ∷ sets) = set ++ all_keys sets
+
+abbrev pub held_view : HeldSet → HeldKeys
+held_view held = record { is_set = held.is_set; objects = items_view held.objects.items; keys = held.keys }
+
+abbrev pub joined_view : JoinedSet → JoinedKeys
+joined_view joined = record { objects = items_view joined.objects.items; keys = all_keys joined.sets.items }
