@@ -5,3 +5,8 @@ pub mod Doing
 pub mod Objects
 pub mod JoinedKeys
 pub mod LeftObjects
+pub mod Printable
+pub mod WholeFiles
+pub mod KeyObjects
+pub mod SetLaws
+pub mod ChangeLaws

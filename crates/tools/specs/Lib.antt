@@ -16,10 +16,16 @@ pub mod Steps
 pub mod Sets
 -- what jose-set does with its files, call by call
 pub mod Changes
--- around the call: a whole run over files
-pub mod Runs
+-- what the sets that jose-set makes read as, and what its calls say of its files
+pub mod SetHeadline
+pub mod ChangeLaws
 -- around the call: the last line and the status
 pub mod Reports
+pub mod SetReports
+-- around the call: a whole run over files
+pub mod Runs
+-- around the call: reading and writing whole files
+pub mod Disks
 -- calls of the code; no answer rests on this page
 pub mod Code
 pub mod SetViews

@@ -1,9 +1,11 @@
 -- What values of the code hold, as contracts see it.
-use Rattle.std.specs.Prelude.{List, [], ◌∷◌, ◌++◌}
+use Rattle.std.specs.Prelude.{List, [], ◌∷◌, ◌++◌, map, string_bytes}
 use Rattle.serde_json.specs.View.{items_view}
 use Rattle.keys.specs.Keys.{OctetKey}
+use Rattle.tools.specs.declared.set_report.Words.{Words}
 use Rattle.tools.specs.declared.sets.HeldSet.{HeldSet}
 use Rattle.tools.specs.declared.sets.JoinedSet.{JoinedSet}
+use Rattle.tools.specs.SetReports.{NamedWords}
 use Rattle.tools.specs.Sets.{HeldKeys, JoinedKeys}
 
 -- the keys of all sets, in order
@@ -16,3 +18,6 @@ held_view held = record { is_set = held.is_set; objects = items_view held.object
 
 abbrev pub joined_view : JoinedSet → JoinedKeys
 joined_view joined = record { objects = items_view joined.objects.items; keys = all_keys joined.sets.items }
+
+abbrev pub named_words : Words → NamedWords
+named_words words = record { target = words.target.now; others = map string_bytes words.others.now }

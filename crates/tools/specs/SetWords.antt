@@ -2,9 +2,7 @@
 use Rattle.std.specs.Prelude.{ℕ, ◌==◌, ◌&&◌, not, nat_eq, nat_le, slice_index, Bool, List, [], ◌∷◌, length, map, count_by, codes, string_bytes, Option, Some, None, option_map, option_and_then, unwrap_or, if◌then◌else◌, Result, Ok, Err}
 use Rattle.std.specs.Str.{byte, bytes_eq}
 use Rattle.tools.specs.declared.set_cause.SetCause.{SetCause}
-use Rattle.tools.specs.declared.set_cause.SetCause.TheVariants.{Usage, InputTwice, At}
-use Rattle.tools.specs.declared.set_cause.Place.TheVariants.{Target}
-use Rattle.tools.specs.declared.set_cause.Why.TheVariants.{NoFile}
+use Rattle.tools.specs.declared.set_cause.SetCause.TheVariants.{Usage, InputTwice, InputSet}
 use Rattle.tools.specs.declared.set_words.SetRequest.{SetRequest}
 use Rattle.tools.specs.declared.set_words.SetRequest.TheVariants.{Join, Add, Remove}
 use Rattle.tools.specs.Steps.{◌>>=◌, needs}
@@ -82,7 +80,7 @@ joining_of (first ∷ words) = if bytes_eq first (codes "-o") then joining_next 
 abbrev pub adding_of : List (List ℕ) → Result Asked SetCause
 adding_of (set ∷ files) = do
   some ← needs (not (length files == 0)) Usage
-  named ← needs (not (is_input set)) (At Target NoFile)
+  named ← needs (not (is_input set)) InputSet
   once ← needs (reads_input_once files) InputTwice
   Ok (adds set files)
 adding_of [] = Err Usage
@@ -90,7 +88,7 @@ adding_of [] = Err Usage
 abbrev pub removing_of : List (List ℕ) → Result Asked SetCause
 removing_of (set ∷ thumbprints) = do
   some ← needs (not (length thumbprints == 0)) Usage
-  named ← needs (not (is_input set)) (At Target NoFile)
+  named ← needs (not (is_input set)) InputSet
   Ok (removes set thumbprints)
 removing_of [] = Err Usage
 

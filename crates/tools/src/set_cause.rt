@@ -90,6 +90,8 @@ pub enum SetCause {
     Memory,
     /// Standard input is to be read twice.
     InputTwice,
+    /// Standard input is to be changed.
+    InputSet,
     /// Standard output cannot be written.
     Output,
     At(Place, Why),

@@ -3,7 +3,7 @@ ghost use Rattle.std.specs.Prelude.{◌≡◌, ◌<◌, ℕ, length, map, count_
 ghost use Rattle.tools.specs.Steps.{seen};
 ghost use Rattle.tools.specs.SetWords.{asked_by, is_input, is_option, operands, after, attached, reads_input_once, joining, joining_into, joining_by, joining_next, joining_of, adding_of, removing_of, set_request_of};
 
-use crate::set_cause::{Place, SetCause, Why, needs};
+use crate::set_cause::{SetCause, needs};
 
 /// What `jose-set` is asked for.
 #[derive(Clone, Copy)]
@@ -133,7 +133,7 @@ fn parse_add(words: &[String]) -> Result<SetRequest<'_>, SetCause>
         return Err(SetCause::Usage);
     };
     needs(!files.is_empty(), SetCause::Usage)?;
-    needs(!is_input(set.as_str()), no_file())?;
+    needs(!is_input(set.as_str()), SetCause::InputSet)?;
     needs(reads_input_once(files), SetCause::InputTwice)?;
     Ok(SetRequest::Add {
         set: set.as_str(),
@@ -148,18 +148,11 @@ fn parse_remove(words: &[String]) -> Result<SetRequest<'_>, SetCause>
         return Err(SetCause::Usage);
     };
     needs(!thumbprints.is_empty(), SetCause::Usage)?;
-    needs(!is_input(set.as_str()), no_file())?;
+    needs(!is_input(set.as_str()), SetCause::InputSet)?;
     Ok(SetRequest::Remove {
         set: set.as_str(),
         thumbprints,
     })
-}
-
-/// Standard input is no set that can be changed.
-fn no_file() -> SetCause
-    ensures { result ≡ SetCause.At Place.Target Why.NoFile }
-{
-    SetCause::At(Place::Target, Why::NoFile)
 }
 
 /// Whether standard input is among the files once, or not at all.
