@@ -1,23 +1,19 @@
 -- What the calls of a run say of its files.
-use Rattle.std.proofs.Common.{◌≡◌, ◌≢◌, ◌∙◌, ◌⊎◌, inl, inr, ℕ, ◌+◌, suc, if◌then◌else◌, Bool, true, false, ◌||◌, List, [], ◌∷◌, ◌++◌, length, Option, Some, None, Result, Ok, Err, refl, sym, ap, subst, append_assoc}
-use Rattle.std.specs.List.{list_any}
+use Rattle.std.proofs.Common.{◌≡◌, ◌∙◌, ℕ, ◌+◌, suc, if◌then◌else◌, Bool, true, List, [], ◌∷◌, ◌++◌, length, Some, Result, Ok, Err, refl, sym, ap, subst, append_assoc}
 use Rattle.std.proofs.lemmas.List.{append-nil}
-use Rattle.std.proofs.lemmas.List.Folds.{list_any-append}
 use Rattle.tools.specs.declared.put_files.Kind.{Kind}
 use Rattle.tools.specs.declared.put_files.Kind.TheVariants as kind
 use Rattle.tools.specs.declared.set_cause.Place.{Place}
-use Rattle.tools.specs.declared.set_cause.Place.TheVariants.{Target, Beside, File}
+use Rattle.tools.specs.declared.set_cause.Place.TheVariants.{Beside}
 use Rattle.tools.specs.declared.set_cause.SetCause.{SetCause}
-use Rattle.tools.specs.declared.set_cause.SetCause.TheVariants.{At, Output}
-use Rattle.tools.specs.declared.set_cause.Why.{Why}
+use Rattle.tools.specs.declared.set_cause.SetCause.TheVariants.{At}
 use Rattle.tools.specs.declared.set_cause.Why.TheVariants as why
-use Rattle.tools.specs.Calls.{Call, asked, tried, read, written_out, created, wrote, owned, synced, put, removed, folder_synced}
-use Rattle.tools.specs.ChangeLaws.{AddsAreWhole, Has, RefusalsDeleteWhatIsNew, RefusalsReplaceNothing, RemovalsAreWhole, is_put, locking, reads, rewriting}
-use Rattle.tools.specs.Changes.{Changes, Creates, Deletes, Editing, adding, removing, Edits, EditsBeside, EndsAt, Examines, Fills, Gathers, IsFile, JoinsInto, JoinsOut, Judges, Names, Places, PutsClaimed, Reads, ReadsAdded, ReadsEdited, ReadsJoined, Refills, Rewrites, Undoes, Writes, beside, by_kind}
+use Rattle.tools.specs.Calls.{Call, asked, tried, read, created, wrote, owned, synced, put, folder_synced}
+use Rattle.tools.specs.ChangeLaws.{AddsAreWhole, RemovalsAreWhole, locking, reads, rewriting}
+use Rattle.tools.specs.Changes.{Deletes, Editing, adding, removing, Edits, Examines, Gathers, Judges, ReadsEdited, Refills, Rewrites, Undoes, beside, by_kind}
 use Rattle.tools.specs.SetHeadline.{joined_from}
-use Rattle.tools.specs.Sets.{JoinedKeys, no_keys, set_keys, set_text, text_without, with_text}
-use Rattle.tools.specs.SetWords.{Asked, joins, adds, removes}
-use Rattle.tools.specs.Steps.{Step, Calls, Computes, Then, stops, goes_on}
+use Rattle.tools.specs.Sets.{JoinedKeys}
+use Rattle.tools.specs.Steps.{Step, Computes, Then, stops, goes_on}
 
 -- ---- one step after another
 

@@ -5,7 +5,8 @@ use Rattle.std.proofs.lemmas.List.{append-nil, take_all}
 use Rattle.tools.specs.declared.set_cause.SetCause.{SetCause}
 use Rattle.tools.specs.declared.set_cause.Place.{Place}
 use Rattle.tools.specs.Calls.{Call, Makes}
-use Rattle.tools.specs.Steps.{Step, Computes, Calls, GivesUnlessMemory, Then, stops, goes_on, Takes, seen}
+use Rattle.tools.specs.Steps.{Step, Computes, GivesUnlessMemory, Then, stops, goes_on, Takes}
+use Rattle.tools.specs.SetViews.{seen}
 use Rattle.tools.specs.Sets.{JoinedKeys}
 use Rattle.tools.specs.Changes.{Deletes, Gathers, Undoes}
 

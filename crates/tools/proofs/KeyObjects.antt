@@ -1,5 +1,5 @@
 -- The key objects of values, and their keys.
-use Rattle.std.proofs.Common.{◌≡◌, ◌∙◌, ◌==◌, ◌&&◌, not, nat_le, ℕ, Bool, true, false, if◌then◌else◌, List, length, codes, Option, Some, None, Result, Ok, Err, refl, sym, ap, subst}
+use Rattle.std.proofs.Common.{◌≡◌, ◌∙◌, ◌==◌, not, nat_le, ℕ, Bool, true, false, if◌then◌else◌, List, length, codes, Option, Some, None, Ok, Err, refl, sym, ap, subst}
 use Rattle.std.proofs.lemmas.Bool.{and_from}
 use Rattle.serde_json.specs.Data.{Data, null, boolean, number, string, array, object, Items, no_items, item}
 use Rattle.serde_json.specs.Find.{get}

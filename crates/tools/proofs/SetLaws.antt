@@ -1,17 +1,14 @@
 -- What the sets that are made read as.
-use Rattle.std.proofs.Common.{◌≡◌, ◌∙◌, ◌≤◌, ◌+◌, ◌&&◌, ◌==◌, ◌||◌, not, nat_le, ℕ, suc, max, Bool, true, false, if◌then◌else◌, List, [], ◌∷◌, ◌++◌, length, codes, Option, Some, None, Result, Ok, Err, refl, sym, ap, subst, append_assoc, arith}
+use Rattle.std.proofs.Common.{◌≡◌, ◌∙◌, ◌≤◌, ◌+◌, ◌==◌, ◌||◌, not, nat_le, ℕ, suc, Bool, true, false, if◌then◌else◌, List, [], ◌∷◌, ◌++◌, length, codes, Option, Some, None, Result, Ok, Err, refl, sym, ap, subst, append_assoc, arith}
 use Rattle.std.proofs.lemmas.Bool.{and_parts, and_from, leb-true}
 use Rattle.std.proofs.lemmas.List.{append-nil}
-use Rattle.std.specs.Str.{IsUtf8}
-use Rattle.serde_json.specs.Data.{Data, null, boolean, number, string, array, object, Items, no_items, item, depth, items_depth}
-use Rattle.serde_json.specs.Find.{get}
-use Rattle.serde_json.specs.Written.{compact_text}
+use Rattle.serde_json.specs.Data.{Items, no_items, item, depth, items_depth}
 use Rattle.octets.specs.declared.refusal.Refusal.{Refusal}
-use Rattle.octets.specs.declared.refusal.Refusal.TheVariants.{Key, Limit}
+use Rattle.octets.specs.declared.refusal.Refusal.TheVariants.{Limit}
 use Rattle.keys.specs.Json.{has_only, is_object, json_value}
-use Rattle.keys.specs.JsonTexts.{IsJson, AreJsonItems, CompactTextReadsBack, KeepJson, ReadsJson, UrlTextsAreJson}
+use Rattle.keys.specs.JsonTexts.{AreJsonItems, CompactTextReadsBack, KeepJson, ReadsJson, UrlTextsAreJson}
 use Rattle.keys.specs.Keys.{OctetKey, octet_key}
-use Rattle.keys.specs.KeySets.{are_objects, items_count, key_objects, key_set, objects_at, octet_keys, unless_bad, value_keys}
+use Rattle.keys.specs.KeySets.{are_objects, items_count, key_objects, key_set, octet_keys, unless_bad, value_keys}
 use Rattle.keys.specs.Limits.{limits}
 use Rattle.tools.specs.declared.set_cause.Place.{Place}
 use Rattle.tools.specs.declared.set_cause.Place.TheVariants.{File, Target}
@@ -183,8 +180,10 @@ with_all read keep at joined all (text ∷ texts) j h =
       later.0,
       (
         b.0.keys ++ later.1.0,
-        ((b.0.keys, (later.1.0, (held.reads, later.1.1.0, refl))),
-        later.1.1.1 ∙ ap (λ ks. ks ++ later.1.0) one.1 ∙ append_assoc joined.keys b.0.keys later.1.0),
+        (
+          (b.0.keys, (later.1.0, (held.reads, later.1.1.0, refl))),
+          later.1.1.1 ∙ ap (λ ks. ks ++ later.1.0) one.1 ∙ append_assoc joined.keys b.0.keys later.1.0,
+        ),
       ),
     )
 
@@ -375,8 +374,11 @@ left_keys_read_back read keep compact url names text changed h =
     let stays : not (length (unnamed names a.0.keys) == 0) ≡ true
     = ap (λ n. not (n == 0)) (keys_counted objects (unnamed names a.0.keys) kept) ∙ test_passed some (At Target NoneStays) d.0 d.1 in (
       a.0.keys,
-      (held.reads, subst (λ t. key_set limits t true ≡ Ok (unnamed names a.0.keys)) (text_is d.2)
-          (reads_back compact url objects (unnamed names a.0.keys) sound few stays)),
+      (
+        held.reads,
+        subst (λ t. key_set limits t true ≡ Ok (unnamed names a.0.keys)) (text_is d.2)
+            (reads_back compact url objects (unnamed names a.0.keys) sound few stays),
+      ),
     )
   where
     fewer : (m n most : ℕ) → m ≤ n → nat_le n most ≡ true → nat_le m most ≡ true

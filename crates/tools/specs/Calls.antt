@@ -3,6 +3,8 @@ use Rattle.std.specs.Prelude.{ℕ, Bool, List, [], ◌∷◌, ◌++◌, Option, 
 use Rattle.tools.specs.declared.put_files.Kind.{Kind}
 use Rattle.tools.specs.declared.put_files.NotCreated.{NotCreated}
 
+-- ---- calls (docs/SPECIFICATION.md "Tools")
+
 -- a call with its answer; a truth value says that it did its work
 pub data Call : Type 0 where
   -- what the name itself is

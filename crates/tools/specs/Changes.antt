@@ -1,9 +1,7 @@
 -- What jose-set does with its files, call by call (docs/SPECIFICATION.md "Tools").
-use Rattle.std.specs.Prelude.{◌≡◌, ℕ, ◌+◌, Bool, true, false, List, [], ◌∷◌, ◌++◌, map, codes, string_bytes, if◌then◌else◌, Option, None, Some, Result, Ok, Err}
+use Rattle.std.specs.Prelude.{◌≡◌, ℕ, ◌+◌, Bool, List, [], ◌∷◌, ◌++◌, codes, if◌then◌else◌, Option, None, Some, Result, Ok, Err}
 use Rattle.octets.specs.declared.refusal.Refusal.{Refusal}
 use Rattle.octets.specs.declared.refusal.Refusal.TheVariants as refusal
-use Rattle.tools.specs.declared.changing.Edit.{Edit}
-use Rattle.tools.specs.declared.changing.Edit.TheVariants.{Add, Remove}
 use Rattle.tools.specs.declared.put_files.Kind.{Kind}
 use Rattle.tools.specs.declared.put_files.Kind.TheVariants as kind
 use Rattle.tools.specs.declared.put_files.NotCreated.{NotCreated}
@@ -11,15 +9,14 @@ use Rattle.tools.specs.declared.put_files.NotCreated.TheVariants as failure
 use Rattle.tools.specs.declared.set_cause.Place.{Place}
 use Rattle.tools.specs.declared.set_cause.Place.TheVariants.{Target, Beside, File}
 use Rattle.tools.specs.declared.set_cause.SetCause.{SetCause}
-use Rattle.tools.specs.declared.set_cause.SetCause.TheVariants.{Usage, Memory, InputTwice, Output, At}
+use Rattle.tools.specs.declared.set_cause.SetCause.TheVariants.{Memory, Output, At}
 use Rattle.tools.specs.declared.set_cause.Why.{Why}
 use Rattle.tools.specs.declared.set_cause.Why.TheVariants as why
 use Rattle.tools.specs.Calls.{Call, asked, tried, read, written_out, created, wrote, owned, synced, put, removed, folder_synced}
 use Rattle.tools.specs.Steps.{Step, Computes, Calls, Then}
 use Rattle.tools.specs.Sets.{JoinedKeys, no_keys, set_keys, set_text, text_without, with_text}
-use Rattle.tools.specs.SetWords.{Asked, joins, adds, removes}
 
--- ---- the set that is changed
+-- ---- the set that is changed (docs/SPECIFICATION.md "Tools")
 
 abbrev pub by_kind : Kind → Result (Unit {0}) SetCause
 by_kind kind.File = Ok tt
@@ -36,7 +33,7 @@ pub record IsFile (path : List ℕ) (calls : List Call) (result : Result (Unit {
 abbrev pub Examines : List ℕ → Step (Unit {0})
 Examines path = Then (IsFile path) (λ file. Calls (tried path) (At Target why.NotWritable))
 
--- ---- new files
+-- ---- new files (docs/SPECIFICATION.md "Tools")
 
 -- the name of the new file beside a file
 abbrev pub beside : List ℕ → List ℕ
@@ -82,7 +79,7 @@ pub record Undoes (path : List ℕ) (place : Place) (step : Step (Unit {0})) (ca
 abbrev pub EndsAt : List ℕ → Step (Unit {0})
 EndsAt path = Calls (folder_synced path) (At Target why.FolderNotOnDisk)
 
--- ---- what is read
+-- ---- what is read (docs/SPECIFICATION.md "Tools")
 
 abbrev pub reading_cause : Place → Refusal → SetCause
 reading_cause place refusal.Memory = Memory
@@ -117,15 +114,11 @@ pub data Editing : Type 0 where
   adding : List (List ℕ) → Editing
   removing : List (List ℕ) → Editing
 
-abbrev pub editing : Edit → Editing
-editing (Add files) = adding (map string_bytes files.now)
-editing (Remove names) = removing (map string_bytes names.now)
-
 abbrev pub ReadsEdited : List ℕ → Editing → Step (List ℕ)
 ReadsEdited set (adding files) = ReadsAdded set files
 ReadsEdited set (removing names) = Judges set Target (text_without names)
 
--- ---- the commands
+-- ---- the commands (docs/SPECIFICATION.md "Tools")
 
 abbrev pub Names : List ℕ → Step (List ℕ)
 Names path = Computes (Ok (beside path))
@@ -151,6 +144,15 @@ EditsBeside path set edit = Then (Creates path Beside why.Claimed) (λ done. The
 
 abbrev pub Edits : List ℕ → Editing → Step (Unit {0})
 Edits set edit = Then (Examines set) (λ done. Then (Names set) (λ path. EditsBeside path set edit))
+
+-- what the words ask for
+pub data Asked : Type 0 where
+  -- the keys of the files as one set, in a new file or on standard output
+  joins : Option (List ℕ) → List (List ℕ) → Asked
+  -- the keys of the files at the end of the set
+  adds : List ℕ → List (List ℕ) → Asked
+  -- the set without the keys of these thumbprints
+  removes : List ℕ → List (List ℕ) → Asked
 
 abbrev pub Changes : Asked → Step (Unit {0})
 Changes (joins None files) = JoinsOut files

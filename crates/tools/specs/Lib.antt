@@ -16,6 +16,7 @@ pub mod Steps
 pub mod Sets
 -- what jose-set does with its files, call by call
 pub mod Changes
+pub mod SetRequests
 -- what the sets that jose-set makes read as, and what its calls say of its files
 pub mod SetHeadline
 pub mod ChangeLaws

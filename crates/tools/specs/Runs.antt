@@ -1,5 +1,5 @@
 -- What a tool does with its arguments.
-use Rattle.std.specs.Prelude.{◌≡◌, ℕ, List, [], Option, Some, None, Result, Ok, Err, MatchResult}
+use Rattle.std.specs.Prelude.{◌≡◌, ℕ, List, [], Some, None, Result, Ok, Err, MatchResult}
 use Rattle.octets.specs.declared.refusal.Refusal.{Refusal}
 use Rattle.octets.specs.declared.streams.ReaderInput.{ReaderInput}
 use Rattle.octets.specs.declared.streams.WriterOutput.{WriterOutput}
@@ -16,10 +16,10 @@ use Rattle.tools.specs.declared.words.Tool.{Tool}
 use Rattle.tools.specs.declared.words.Tool.TheVariants.{VerifyAll, Set}
 use Rattle.tools.specs.declared.set_cause.SetCause.{SetCause}
 use Rattle.tools.specs.Calls.{Call}
-use Rattle.tools.specs.Changes.{Changes}
+use Rattle.tools.specs.Changes.{Changes, Asked, joins, adds, removes}
 use Rattle.tools.specs.Reports.{IsReported}
 use Rattle.tools.specs.SetReports.{IsSetReported, NamedWords}
-use Rattle.tools.specs.SetWords.{Asked, joins, adds, removes, set_request_of}
+use Rattle.tools.specs.SetWords.{set_request_of}
 use Rattle.tools.specs.Steps.{Takes}
 use Rattle.tools.specs.VerifyAll.{VerifiesAll}
 use Rattle.tools.specs.Words.{RequestView, request_of, tool_of}

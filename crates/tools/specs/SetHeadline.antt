@@ -28,7 +28,7 @@ added_text set texts = do
   joined ← joined_from 0 first texts
   Ok (set_text joined.objects)
 
--- ---- their keys
+-- ---- their keys (docs/SPECIFICATION.md "Tools")
 
 -- the keys of the texts in order, all of them good
 abbrev pub AreKeysOf : List (List ℕ) → List OctetKey → Type 0
@@ -49,7 +49,7 @@ AddedKeysReadBack = (set : List ℕ) (texts : List (List ℕ)) (text : List ℕ)
 abbrev pub JoinedAloneIsTheSame : Type 0
 JoinedAloneIsTheSame = (first : List ℕ) (texts : List (List ℕ)) (text : List ℕ) → joined_text (first ∷ texts) ≡ Ok text → joined_text (text ∷ []) ≡ Ok text
 
--- ---- keys that are removed
+-- ---- keys that are removed (docs/SPECIFICATION.md "Tools")
 
 -- the keys whose thumbprint is not named
 abbrev pub unnamed : List (List ℕ) → List OctetKey → List OctetKey

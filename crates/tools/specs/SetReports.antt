@@ -1,5 +1,5 @@
 -- The last line of jose-set (docs/SPECIFICATION.md "Tools").
-use Rattle.std.specs.Prelude.{◌≡◌, ◌⊎◌, ℕ, ◌+◌, ◌/◌, ◌%◌, ◌&&◌, nat_le, nat_lt, Bool, List, [], ◌∷◌, ◌++◌, codes, get_or, Option, Some, None, if◌then◌else◌, Result, Ok, Err, OnOk, IfErr}
+use Rattle.std.specs.Prelude.{◌≡◌, ◌⊎◌, ℕ, ◌+◌, ◌/◌, ◌%◌, ◌&&◌, nat_le, nat_lt, Bool, List, [], ◌∷◌, ◌++◌, codes, get_or, if◌then◌else◌, Result, Ok, Err, OnOk, IfErr}
 use Rattle.octets.specs.Devices.{AppendsPrefixOf}
 use Rattle.octets.specs.Refusals.{refusal_text}
 use Rattle.tools.specs.declared.set_cause.Place.{Place}
@@ -9,7 +9,7 @@ use Rattle.tools.specs.declared.set_cause.SetCause.TheVariants.{Usage, Memory, I
 use Rattle.tools.specs.declared.set_cause.Why.{Why}
 use Rattle.tools.specs.declared.set_cause.Why.TheVariants as why
 
--- ---- printable names
+-- ---- printable names (docs/SPECIFICATION.md "Tools")
 
 -- a hexadecimal digit, in a small letter
 abbrev pub hex_digit : ℕ → ℕ
@@ -26,7 +26,7 @@ abbrev pub printable : List ℕ → List ℕ
 printable [] = []
 printable (octet ∷ octets) = printable_octet octet ++ printable octets
 
--- ---- the words
+-- ---- the words (docs/SPECIFICATION.md "Tools")
 
 -- the words that a cause may name: the set that is changed or made, and the files or thumbprints
 pub record NamedWords : Type 0 where
@@ -38,7 +38,7 @@ name_of words Target = words.target
 name_of words Beside = words.target ++ codes ".new"
 name_of words (File at) = get_or words.others at []
 
--- ---- the line
+-- ---- the line (docs/SPECIFICATION.md "Tools")
 
 abbrev pub why_text : NamedWords → Why → List ℕ
 why_text words why.Unread = codes "it cannot be read"

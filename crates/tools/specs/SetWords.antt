@@ -1,24 +1,10 @@
 -- What the words of jose-set ask for (docs/SPECIFICATION.md "Tools").
-use Rattle.std.specs.Prelude.{ℕ, ◌==◌, ◌&&◌, not, nat_eq, nat_le, slice_index, Bool, List, [], ◌∷◌, length, map, count_by, codes, string_bytes, Option, Some, None, option_map, option_and_then, unwrap_or, if◌then◌else◌, Result, Ok, Err}
+use Rattle.std.specs.Prelude.{ℕ, ◌==◌, ◌&&◌, not, nat_le, slice_index, Bool, List, [], ◌∷◌, length, count_by, codes, Option, Some, None, option_map, option_and_then, unwrap_or, if◌then◌else◌, Result, Ok, Err}
 use Rattle.std.specs.Str.{byte, bytes_eq}
 use Rattle.tools.specs.declared.set_cause.SetCause.{SetCause}
 use Rattle.tools.specs.declared.set_cause.SetCause.TheVariants.{Usage, InputTwice, InputSet}
-use Rattle.tools.specs.declared.set_words.SetRequest.{SetRequest}
-use Rattle.tools.specs.declared.set_words.SetRequest.TheVariants.{Join, Add, Remove}
+use Rattle.tools.specs.Changes.{Asked, joins, adds, removes}
 use Rattle.tools.specs.Steps.{◌>>=◌, needs}
-
-pub data Asked : Type 0 where
-  -- the keys of the files as one set, in a new file or on standard output
-  joins : Option (List ℕ) → List (List ℕ) → Asked
-  -- the keys of the files at the end of the set
-  adds : List ℕ → List (List ℕ) → Asked
-  -- the set without the keys of these thumbprints
-  removes : List ℕ → List (List ℕ) → Asked
-
-abbrev pub asked_by : SetRequest → Asked
-asked_by (Join new files) = joins (option_map (λ name. name.now) new) (map string_bytes files.now)
-asked_by (Add set files) = adds set.now (map string_bytes files.now)
-asked_by (Remove set thumbprints) = removes set.now (map string_bytes thumbprints.now)
 
 -- ---- options (POSIX, section 12.2)
 

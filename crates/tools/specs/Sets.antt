@@ -1,5 +1,5 @@
 -- The sets that jose-set makes of whole texts (docs/SPECIFICATION.md "Tools").
-use Rattle.std.specs.Prelude.{ℕ, suc, ◌+◌, ◌==◌, ◌&&◌, ◌||◌, not, nat_le, Bool, true, false, List, [], ◌∷◌, ◌++◌, length, map, codes, is_some, Option, Some, None, if◌then◌else◌, Result, Ok, Err}
+use Rattle.std.specs.Prelude.{ℕ, ◌+◌, ◌==◌, ◌&&◌, ◌||◌, not, nat_le, Bool, true, List, [], ◌∷◌, ◌++◌, map, codes, is_some, Option, Some, None, if◌then◌else◌, Result, Ok, Err}
 use Rattle.std.specs.List.{list_any}
 use Rattle.std.specs.Str.{bytes_eq}
 use Rattle.serde_json.specs.Data.{Data, object, array, Items, no_items, item, no_members, member, depth}
@@ -15,13 +15,13 @@ use Rattle.keys.specs.Limits.{limits}
 use Rattle.keys.specs.Texts.{is_among}
 use Rattle.keys.specs.Thumbprints.{thumbprint_of}
 use Rattle.tools.specs.declared.set_cause.Place.{Place}
-use Rattle.tools.specs.declared.set_cause.Place.TheVariants.{Target, File}
+use Rattle.tools.specs.declared.set_cause.Place.TheVariants.{Target}
 use Rattle.tools.specs.declared.set_cause.SetCause.{SetCause}
 use Rattle.tools.specs.declared.set_cause.SetCause.TheVariants.{Memory, At}
 use Rattle.tools.specs.declared.set_cause.Why.TheVariants.{Refused, OtherMember, KeyTwice, NoSet, NoKey, NoneStays}
 use Rattle.tools.specs.Steps.{◌>>=◌, needs}
 
--- ---- what a text holds
+-- ---- what a text holds (docs/SPECIFICATION.md "Tools")
 
 abbrev pub refused_by : Place → Refusal → SetCause
 refused_by place refusal.Memory = Memory
@@ -61,7 +61,7 @@ held_keys place text = do
   shallow ← needs (are_shallow objects) (At place (Refused refusal.Limit))
   Ok (record { is_set = is_set value; objects = objects; keys = keys })
 
--- ---- keys that are joined
+-- ---- keys that are joined (docs/SPECIFICATION.md "Tools")
 
 abbrev pub has_octets : List OctetKey → List ℕ → Bool
 has_octets keys octets = list_any (λ key. bytes_eq key.octets octets) keys
@@ -103,7 +103,7 @@ set_keys text = do
   set ← needs held.is_set (At Target NoSet)
   with_keys Target no_keys held
 
--- ---- the set's text
+-- ---- the set's text (docs/SPECIFICATION.md "Tools")
 
 abbrev pub set_value : Items → Data
 set_value objects = object (member (codes "keys") (array objects) no_members)
@@ -111,7 +111,7 @@ set_value objects = object (member (codes "keys") (array objects) no_members)
 abbrev pub set_text : Items → List ℕ
 set_text objects = compact_text (set_value objects)
 
--- ---- a set without some keys
+-- ---- a set without some keys (docs/SPECIFICATION.md "Tools")
 
 abbrev pub thumbprints : List OctetKey → List (List ℕ)
 thumbprints keys = map (λ key. thumbprint_of key S256) keys

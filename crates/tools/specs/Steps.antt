@@ -1,10 +1,10 @@
 -- Steps of jose-set, each of which gives a value or a cause.
 use Rattle.std.specs.Prelude.{◌≡◌, Bool, true, false, List, [], ◌∷◌, ◌++◌, if◌then◌else◌, Result, Ok, Err}
 use Rattle.tools.specs.declared.set_cause.SetCause.{SetCause}
-use Rattle.tools.specs.declared.set_cause.SetCause.TheVariants.{Usage, Memory, InputTwice, Output, At}
+use Rattle.tools.specs.declared.set_cause.SetCause.TheVariants.{Memory}
 use Rattle.tools.specs.Calls.{Call}
 
--- ---- steps that call nothing
+-- ---- steps that call nothing (docs/SPECIFICATION.md "Tools")
 
 -- A definition of several steps is a `do` block: the first cause decides.
 infixl 10 ◌>>=◌
@@ -20,17 +20,12 @@ abbrev pub is_memory : SetCause → Bool
 is_memory Memory = true
 is_memory cause = false
 
--- the result, seen by view
-abbrev pub seen : {X Y : Type 0} → (X → Y) → Result X SetCause → Result Y SetCause
-seen view (Ok x) = Ok (view x)
-seen view (Err cause) = Err cause
-
 -- The result is the answer, unless memory ran out.
 abbrev pub GivesUnlessMemory : {X Y : Type 0} → (X → Y) → Result X SetCause → Result Y SetCause → Type 0
 GivesUnlessMemory view (Ok x) answer = answer ≡ Ok (view x)
 GivesUnlessMemory view (Err cause) answer = is_memory cause ≡ false → answer ≡ Err cause
 
--- ---- steps that make calls: a relation of the calls and the result
+-- ---- steps that make calls: a relation of the calls and the result (docs/SPECIFICATION.md "Tools")
 
 abbrev pub Step : Type 0 → Type 1
 Step A = List Call → Result A SetCause → Type 0

@@ -2,11 +2,11 @@
 ghost use Rattle.std.specs.Prelude.{◌≡◌, ◌+◌, ◌^◌, ◌<◌, length, map, string_bytes, Ok};
 ghost use Rattle.serde_json.specs.View.{items_view};
 ghost use Rattle.tools.specs.Calls.{written_out};
-ghost use Rattle.tools.specs.Steps.{Calls, GivesUnlessMemory, Takes, seen};
+ghost use Rattle.tools.specs.Steps.{Calls, GivesUnlessMemory, Takes};
 ghost use Rattle.tools.specs.Sets.{no_keys, set_keys, set_text, text_without, with_text};
-ghost use Rattle.tools.specs.SetViews.{joined_view};
-ghost use Rattle.tools.specs.SetWords.{asked_by};
-ghost use Rattle.tools.specs.Changes.{Changes, Edits, EditsBeside, Gathers, Judges, JoinsInto, JoinsOut, PutsClaimed, Reads, ReadsAdded, ReadsEdited, ReadsJoined, Rewrites, beside, editing, reading_cause};
+ghost use Rattle.tools.specs.SetViews.{joined_view, seen, editing};
+ghost use Rattle.tools.specs.SetRequests.{asked_by};
+ghost use Rattle.tools.specs.Changes.{Changes, Edits, EditsBeside, Gathers, Judges, JoinsInto, JoinsOut, PutsClaimed, Reads, ReadsAdded, ReadsEdited, ReadsJoined, Rewrites, beside, reading_cause};
 
 use crate::joining::{no_keys, set_keys, set_text, with_text};
 use crate::put_files::PutFiles;

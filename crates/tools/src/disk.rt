@@ -147,13 +147,7 @@ fn cannot_be_synchronized(kind: ErrorKind) -> bool {
 fn folder_of(path: &str) -> &str {
     match path.rsplit_once('/') {
         None => ".",
-        Some((folder, _)) => {
-            if folder.is_empty() {
-                "/"
-            } else {
-                folder
-            }
-        }
+        Some((folder, _)) => { if folder.is_empty() { "/" } else { folder } }
     }
 }
 

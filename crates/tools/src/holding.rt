@@ -5,9 +5,9 @@ ghost use Rattle.serde_json.specs.Written.{has_float, items_have_float};
 ghost use Rattle.keys.specs.Json.{json_value};
 ghost use Rattle.keys.specs.KeySets.{key_objects, key_set};
 ghost use Rattle.keys.specs.Limits.{limits};
-ghost use Rattle.tools.specs.Steps.{GivesUnlessMemory, needs, seen};
+ghost use Rattle.tools.specs.Steps.{GivesUnlessMemory, needs};
 ghost use Rattle.tools.specs.Sets.{are_shallow, held_keys, is_set, judged, refused_by};
-ghost use Rattle.tools.specs.SetViews.{held_view};
+ghost use Rattle.tools.specs.SetViews.{held_view, seen};
 
 use crate::set_cause::{Place, SetCause, Why, needs};
 use crate::sets::HeldSet;

@@ -73,8 +73,9 @@ fn with_keys(
 #[tactic(auto, using(crate::proofs::JoinedKeys::items_view_append, crate::proofs::JoinedKeys::no_float_joined, crate::proofs::JoinedKeys::all_keys_append))]
 fn joined_with(joined: JoinedSet, held: HeldSet) -> Result<JoinedSet, AllocError>
     ensures { IfOk result (λ both. joined_view both ≡ (record {
-        objects = joined_items (items_view joined.objects.items) (items_view held.objects.items);
-        keys = all_keys joined.sets.items ++ held.keys })) }
+      objects = joined_items (items_view joined.objects.items) (items_view held.objects.items);
+      keys = all_keys joined.sets.items ++ held.keys;
+    })) }
 {
     let JoinedSet {
         mut objects,
@@ -98,12 +99,7 @@ fn are_few(one: usize, other: usize) -> bool
 }
 
 /// Refuses if one of the keys is there already.
-fn none_twice(
-    alloc: Global,
-    place: Place,
-    sets: &[KeySet],
-    keys: &[Key],
-) -> Result<(), SetCause>
+fn none_twice(alloc: Global, place: Place, sets: &[KeySet], keys: &[Key]) -> Result<(), SetCause>
     ensures { GivesUnlessMemory (λ done. done) result (none_twice place (first_twice (all_keys sets.now) (map key_view keys.now))) }
 {
     match first_twice(sets, keys) {

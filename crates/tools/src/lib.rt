@@ -22,7 +22,6 @@ mod put_files;
 mod removing;
 mod replacing;
 mod set_cause;
-pub mod set_laws;
 mod set_report;
 mod set_words;
 mod sets;
@@ -143,3 +142,6 @@ pub fn start(rt: HostRuntime) -> ExitCode {
         &mut errors,
     ))
 }
+
+#[cfg(test)]
+mod tests;

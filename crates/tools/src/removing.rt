@@ -16,11 +16,7 @@ use std::alloc::{AllocError, Global};
 
 /// The text of the set without the keys of these thumbprints.
 #[tactic(auto, unfolding(crate::specs::Sets::text_without), using(crate::proofs::JoinedKeys::counted))]
-pub(crate) fn text_without(
-    alloc: Global,
-    names: &[String],
-    text: &[u8],
-) -> Result<String, SetCause>
+pub(crate) fn text_without(alloc: Global, names: &[String], text: &[u8]) -> Result<String, SetCause>
     ensures { GivesUnlessMemory string_bytes result (text_without (map string_bytes names.now) text.now) }
 {
     let held = hold(alloc, Place::Target, text)?;

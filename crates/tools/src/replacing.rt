@@ -2,7 +2,8 @@
 ghost use Rattle.std.specs.Prelude.{◌≡◌, Ok, IfOk};
 ghost use Rattle.std.specs.Prelude.{◌++◌};
 ghost use Rattle.tools.specs.Calls.{as_done, tried, wrote, owned, synced, put, folder_synced};
-ghost use Rattle.tools.specs.Steps.{Takes, Calls, seen};
+ghost use Rattle.tools.specs.Steps.{Takes, Calls};
+ghost use Rattle.tools.specs.SetViews.{seen};
 ghost use Rattle.tools.specs.Changes.{IsFile, by_kind, Examines, Creates, creation_cause, beside, Places, Fills, Refills, Deletes, EndsAt};
 
 use crate::put_files::{Kind, NotCreated, PutFiles};
@@ -155,12 +156,7 @@ fn own<D: PutFiles>(disk: &mut D, new: &D::New, path: &str, old: &str) -> Result
 }
 
 /// Brings the new file to the disk, and only then puts it in the place of the target.
-fn place<D: PutFiles>(
-    disk: &mut D,
-    new: D::New,
-    path: &str,
-    target: &str,
-) -> Result<(), SetCause>
+fn place<D: PutFiles>(disk: &mut D, new: D::New, path: &str, target: &str) -> Result<(), SetCause>
     requires { D.is_new new path.now }
     ensures { Takes D.made disk.old disk.new (Places path.now target.now) result }
 {
@@ -179,12 +175,7 @@ fn sync<D: PutFiles>(disk: &mut D, new: D::New, path: &str) -> Result<D::Synced,
     }
 }
 
-fn put<D: PutFiles>(
-    disk: &mut D,
-    file: D::Synced,
-    from: &str,
-    to: &str,
-) -> Result<(), SetCause>
+fn put<D: PutFiles>(disk: &mut D, file: D::Synced, from: &str, to: &str) -> Result<(), SetCause>
     requires { D.is_synced file from.now }
     ensures { Takes D.made disk.old disk.new (Calls (put from.now to.now) (SetCause.At Place.Target Why.NotReplaced)) result }
 {

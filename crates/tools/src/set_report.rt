@@ -3,7 +3,7 @@ ghost use Rattle.std.specs.Prelude.{◌≡◌, ◌⊎◌, ◌<◌, ◌++◌, [],
 ghost use Rattle.octets.specs.Devices.{AppendsPrefixOf};
 ghost use Rattle.tools.specs.Runs.{no_words, words_of};
 ghost use Rattle.tools.specs.SetViews.{named_words};
-ghost use Rattle.tools.specs.SetWords.{asked_by};
+ghost use Rattle.tools.specs.SetRequests.{asked_by};
 ghost use Rattle.tools.specs.SetReports.{cause_text, hex_digit, name_of, printable, printable_octet, set_line, set_status, why_text};
 
 use crate::set_cause::{Place, SetCause, Why};
@@ -98,7 +98,10 @@ fn add_cause(line: &mut Vec<u8>, words: Words<'_>, cause: &SetCause) -> Result<(
     ensures { OnOk result (line.new.items ≡ line.old.items ++ cause_text (named_words words.entry) cause.now) }
 {
     match cause {
-        SetCause::Usage => add(line, "usage: jose-set join [-o NEW] FILE..\n       jose-set add SET FILE..\n       jose-set remove SET THUMBPRINT.."),
+        SetCause::Usage => add(
+            line,
+            "usage: jose-set join [-o NEW] FILE..\n       jose-set add SET FILE..\n       jose-set remove SET THUMBPRINT..",
+        ),
         SetCause::Memory => add(line, "jose-set: jose: 4 Memory"),
         SetCause::InputTwice => add(line, "jose-set: -: standard input can be read only once"),
         SetCause::InputSet => add(line, "jose-set: -: it is not a file"),
@@ -128,9 +131,7 @@ fn add_name(line: &mut Vec<u8>, words: Words<'_>, place: Place) -> Result<(), Al
 {
     match place {
         Place::Target => add_printable(line, words.target),
-        Place::Beside => {
-            add_beside(line, words.target)
-        }
+        Place::Beside => { add_beside(line, words.target) }
         Place::File(at) => add_printable(line, other(words.others, at)),
     }
 }
@@ -165,24 +166,31 @@ fn add_why(line: &mut Vec<u8>, words: Words<'_>, why: &Why) -> Result<(), AllocE
         Why::KeyTwice(thumbprint) => {
             add_between(line, "the key ", thumbprint.as_str(), " is there already")
         }
-        Why::NoKey(at) => {
-            add_then(line, "no key has the thumbprint ", other(words.others, *at))
-        }
+        Why::NoKey(at) => { add_then(line, "no key has the thumbprint ", other(words.others, *at)) }
         Why::Unread => add(line, "it cannot be read"),
         Why::OtherMember => add(line, "a set must have one member \"keys\", and no other"),
-        Why::NoSet => add(line, "it is a key, and not a set. jose-set join -o NEW makes a set"),
+        Why::NoSet => add(
+            line,
+            "it is a key, and not a set. jose-set join -o NEW makes a set",
+        ),
         Why::NoFile => add(line, "it is not a file"),
         Why::Link => add(line, "it is a symbolic link"),
         Why::NotWritable => add(line, "it may not be written"),
         Why::NoneStays => add(line, "one key must stay"),
         Why::Exists => add(line, "there is a file already"),
-        Why::Claimed => add(line, "there is a file already. Another jose-set is at work, or one was killed"),
+        Why::Claimed => add(
+            line,
+            "there is a file already. Another jose-set is at work, or one was killed",
+        ),
         Why::NotCreated => add(line, "it cannot be created"),
         Why::NotWritten => add(line, "it cannot be written"),
         Why::NotOnDisk => add(line, "it cannot be written to the disk"),
         Why::NotReplaced => add(line, "it cannot be replaced"),
         Why::NotDeleted => add(line, "it cannot be deleted"),
-        Why::FolderNotOnDisk => add(line, "it was changed, but its folder cannot be written to the disk"),
+        Why::FolderNotOnDisk => add(
+            line,
+            "it was changed, but its folder cannot be written to the disk",
+        ),
     }
 }
 
@@ -197,12 +205,7 @@ fn add_then(line: &mut Vec<u8>, front: &str, text: &str) -> Result<(), AllocErro
 
 /// So it does, and adds the end.
 #[tactic(auto, using(std::proofs::Common::append_assoc))]
-fn add_between(
-    line: &mut Vec<u8>,
-    front: &str,
-    text: &str,
-    end: &str,
-) -> Result<(), AllocError>
+fn add_between(line: &mut Vec<u8>, front: &str, text: &str, end: &str) -> Result<(), AllocError>
     ensures { OnOk result (line.new.items ≡ line.old.items ++ (front.now ++ printable text.now ++ end.now)) }
 {
     add_then(line, front, text)?;

@@ -1,7 +1,7 @@
 use Rattle.std.proofs.Common.{map, string_bytes, subst}
 use Rattle.tools.specs.Changes.{Gathers}
-use Rattle.tools.specs.Steps.{Takes, seen}
-use Rattle.tools.specs.SetViews.{joined_view}
+use Rattle.tools.specs.Steps.{Takes}
+use Rattle.tools.specs.SetViews.{joined_view, seen}
 use Rattle.tools.proofs.changing.gather_all.Goals as goal
 
 pub returns : goal.returns

@@ -1,5 +1,5 @@
 use Rattle.tools.proofs.ChangeLaws.{adds_are_whole, removals_are_whole}
-use Rattle.tools.proofs.set_laws.edits_are_whole.Goals as goal
+use Rattle.tools.proofs.laws.edits_are_whole.Goals as goal
 
 pub returns-clause-adds : goal.returns-clause-adds
 returns-clause-adds c = adds_are_whole

@@ -1,5 +1,5 @@
 use Rattle.tools.proofs.SetLaws.{added_keys_read_back, joined_keys_read_back}
-use Rattle.tools.proofs.set_laws.joined_keys_read_back.Goals as goal
+use Rattle.tools.proofs.laws.joined_keys_read_back.Goals as goal
 
 pub returns-clause-joined : goal.returns-clause-joined
 returns-clause-joined c = joined_keys_read_back c.what_is_read_is_json.ensures c.members_keep_json.ensures c.compact_text_reads_back.ensures c.url_texts_are_json.ensures
