@@ -1,8 +1,13 @@
 -- What the calls of jose-set say of its files.
-use Rattle.std.specs.Prelude.{◌≡◌, ℕ, true, List, [], ◌∷◌, ◌++◌, length, Some, Ok}
+use Rattle.std.specs.Prelude.{◌≡◌, ℕ, true, List, [], ◌∷◌, ◌++◌, length, Some, Ok, ◌≢◌, Bool, false, Result, Err, ◌⊎◌}
+use Rattle.std.specs.List.{list_any}
 use Rattle.tools.specs.declared.put_files.Kind.TheVariants as kind
-use Rattle.tools.specs.Calls.{Call, asked, tried, read, created, wrote, owned, synced, put, folder_synced}
-use Rattle.tools.specs.Changes.{Changes, adds, removes, beside}
+use Rattle.tools.specs.Calls.{Call, asked, tried, read, created, wrote, owned, synced, put, folder_synced, removed}
+use Rattle.tools.specs.declared.set_cause.Place.TheVariants.{Target}
+use Rattle.tools.specs.declared.set_cause.SetCause.{SetCause}
+use Rattle.tools.specs.declared.set_cause.SetCause.TheVariants.{At}
+use Rattle.tools.specs.declared.set_cause.Why.TheVariants.{FolderNotOnDisk}
+use Rattle.tools.specs.Changes.{Asked, Changes, adds, removes, beside}
 use Rattle.tools.specs.SetHeadline.{added_text}
 use Rattle.tools.specs.Sets.{text_without}
 
@@ -33,3 +38,25 @@ abbrev pub RemovalsAreWhole : Type 0
 RemovalsAreWhole = (set : List ℕ) (names : List (List ℕ)) (calls : List Call) → Changes (removes set names) calls (Ok tt)
     → (old : List ℕ) × ((text : List ℕ) × ((text_without names old ≡ Ok text)
     × (calls ≡ locking set ++ (read set (Some old) ∷ rewriting set text))))
+
+-- ---- refusals (docs/SPECIFICATION.md "Tools")
+
+-- the call put a file in the place of another
+abbrev pub is_put : Call → Bool
+is_put (put from to done) = done
+is_put call = false
+
+-- After a refusal no file was put in the place of another, except if the folder alone was not brought to the disk.
+abbrev pub RefusalsReplaceNothing : Type 0
+RefusalsReplaceNothing = (request : Asked) (calls : List Call) (cause : SetCause) → Changes request calls (Err cause) → cause ≢ At Target FolderNotOnDisk
+    → list_any is_put calls ≡ false
+
+-- the call is among these
+abbrev pub Has : Call → List Call → Type 0
+Has call [] = ⊥
+Has call (other ∷ calls) = (other ≡ call) ⊎ Has call calls
+
+-- Then each file that was created was deleted, or the system refused to.
+abbrev pub RefusalsDeleteWhatIsNew : Type 0
+RefusalsDeleteWhatIsNew = (request : Asked) (calls : List Call) (cause : SetCause) (path : List ℕ) → Changes request calls (Err cause)
+    → cause ≢ At Target FolderNotOnDisk → Has (created path (Ok tt)) calls → (did : Bool) × Has (removed path did) calls

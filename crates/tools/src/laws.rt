@@ -1,6 +1,6 @@
 //! Laws of the answers of the tools. Each law is the contract of a function that does nothing.
 ghost use Rattle.tools.specs.Headline.{EachKeyVerifies, OtherNumberIsRefused, AlikeKeysAreRefused, KeyTwiceIsRefused};
-ghost use Rattle.tools.specs.ChangeLaws.{AddsAreWhole, RemovalsAreWhole};
+ghost use Rattle.tools.specs.ChangeLaws.{AddsAreWhole, RefusalsDeleteWhatIsNew, RefusalsReplaceNothing, RemovalsAreWhole};
 ghost use Rattle.tools.specs.SetHeadline.{AddedKeysReadBack, JoinedAloneIsTheSame, JoinedKeysReadBack, LeftKeysReadBack};
 
 use keys::laws::{
@@ -52,4 +52,11 @@ pub fn left_keys_read_back()
 pub fn edits_are_whole()
     ensures adds { AddsAreWhole }
     ensures removals { RemovalsAreWhole }
+{}
+
+/// After a refusal no file was put in the place of another, and each file that was created was deleted, or the system refused to; except if
+/// the folder alone was not brought to the disk.
+pub fn refusals_change_nothing()
+    ensures replaced { RefusalsReplaceNothing }
+    ensures deleted { RefusalsDeleteWhatIsNew }
 {}

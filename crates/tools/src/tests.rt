@@ -20,7 +20,7 @@ struct Kept {
     text: Vec<u8>,
 }
 
-fn kept(alloc: Global, name: &str, text: &[u8]) -> Result<Kept, AllocError> {
+fn file_of(alloc: Global, name: &str, text: &[u8]) -> Result<Kept, AllocError> {
     let name = String::from_str(alloc, name)?;
     let mut octets = Vec::new(alloc);
     octets.extend_from_slice(text)?;
@@ -40,8 +40,8 @@ impl Files {
     /// The file `a` with a key, and the file `set` with two.
     fn new(alloc: Global, fails_at: u64) -> Result<Files, AllocError> {
         let mut files = Vec::new(alloc);
-        files.push(kept(alloc, "a", A.as_bytes())?)?;
-        files.push(kept(alloc, "set", SET.as_bytes())?)?;
+        files.push(file_of(alloc, "a", A.as_bytes())?)?;
+        files.push(file_of(alloc, "set", SET.as_bytes())?)?;
         Ok(Files {
             alloc,
             kept: files,
@@ -73,7 +73,7 @@ impl Files {
     /// Keeps the text under this name, in place of what it had.
     fn keep(&mut self, name: &str, text: &[u8]) -> Result<(), Fault> {
         self.forget(name);
-        let Ok(file) = kept(self.alloc, name, text) else {
+        let Ok(file) = file_of(self.alloc, name, text) else {
             return Err(Fault::Writing);
         };
         match self.kept.push(file) {
