@@ -10,3 +10,4 @@ pub mod WholeFiles
 pub mod KeyObjects
 pub mod SetLaws
 pub mod ChangeLaws
+pub mod ReportLaws

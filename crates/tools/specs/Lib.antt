@@ -23,6 +23,8 @@ pub mod ChangeLaws
 -- around the call: the last line and the status
 pub mod Reports
 pub mod SetReports
+pub mod ReportLaws
+pub mod SetEndings
 -- around the call: a whole run over files
 pub mod Runs
 -- around the call: reading and writing whole files

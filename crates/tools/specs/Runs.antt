@@ -18,7 +18,8 @@ use Rattle.tools.specs.declared.set_cause.SetCause.{SetCause}
 use Rattle.tools.specs.Calls.{Call}
 use Rattle.tools.specs.Changes.{Changes, Asked, joins, adds, removes}
 use Rattle.tools.specs.Reports.{IsReported}
-use Rattle.tools.specs.SetReports.{IsSetReported, NamedWords}
+use Rattle.tools.specs.SetEndings.{IsSetReported}
+use Rattle.tools.specs.SetReports.{NamedWords}
 use Rattle.tools.specs.SetWords.{set_request_of}
 use Rattle.tools.specs.Steps.{Takes}
 use Rattle.tools.specs.VerifyAll.{VerifiesAll}

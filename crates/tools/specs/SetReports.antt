@@ -1,6 +1,5 @@
 -- The last line of jose-set (docs/SPECIFICATION.md "Tools").
-use Rattle.std.specs.Prelude.{◌≡◌, ◌⊎◌, ℕ, ◌+◌, ◌/◌, ◌%◌, ◌&&◌, nat_le, nat_lt, Bool, List, [], ◌∷◌, ◌++◌, codes, get_or, if◌then◌else◌, Result, Ok, Err, OnOk, IfErr}
-use Rattle.octets.specs.Devices.{AppendsPrefixOf}
+use Rattle.std.specs.Prelude.{ℕ, ◌+◌, ◌/◌, ◌%◌, ◌&&◌, nat_le, nat_lt, Bool, List, [], ◌∷◌, ◌++◌, codes, get_or, if◌then◌else◌}
 use Rattle.octets.specs.Refusals.{refusal_text}
 use Rattle.tools.specs.declared.set_cause.Place.{Place}
 use Rattle.tools.specs.declared.set_cause.Place.TheVariants.{Target, Beside, File}
@@ -73,14 +72,3 @@ cause_text words (At place why) = codes "jose-set: " ++ printable (name_of words
 
 abbrev pub set_line : NamedWords → SetCause → List ℕ
 set_line words cause = cause_text words cause ++ codes "\n"
-
-abbrev pub set_status : Result (Unit {0}) SetCause → ℕ
-set_status (Ok done) = 0
-set_status (Err cause) = 1
-
--- The outcome is the status. After a refusal its line was written, or that of Memory, as far as the output accepted it.
-pub record IsSetReported {O : Type 0} (written : O → List ℕ) (words : NamedWords) (outcome : Result (Unit {0}) SetCause) (status : ℕ) (before after : O) : Type 0 where
-  pub is : status ≡ set_status outcome
-  pub quiet : OnOk outcome (after ≡ before)
-  pub line : IfErr outcome (λ cause. AppendsPrefixOf (set_line words cause) (written before) (written after)
-      ⊎ AppendsPrefixOf (set_line words Memory) (written before) (written after))

@@ -18,6 +18,7 @@ mod ending;
 mod holding;
 mod joining;
 pub mod laws;
+pub mod line_laws;
 mod put_files;
 mod removing;
 mod replacing;

@@ -4,7 +4,8 @@ ghost use Rattle.octets.specs.Devices.{AppendsPrefixOf};
 ghost use Rattle.tools.specs.Runs.{no_words, words_of};
 ghost use Rattle.tools.specs.SetViews.{named_words};
 ghost use Rattle.tools.specs.SetRequests.{asked_by};
-ghost use Rattle.tools.specs.SetReports.{cause_text, hex_digit, name_of, printable, printable_octet, set_line, set_status, why_text};
+ghost use Rattle.tools.specs.SetEndings.{set_status};
+ghost use Rattle.tools.specs.SetReports.{cause_text, hex_digit, name_of, printable, printable_octet, set_line, why_text};
 
 use crate::set_cause::{Place, SetCause, Why};
 use crate::set_words::SetRequest;
