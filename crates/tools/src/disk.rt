@@ -56,7 +56,11 @@ impl PutFiles for Disk<'_> {
     }
 
     fn read(&mut self, alloc: Global, path: &str) -> Result<Vec<u8>, Refusal> {
-        read_whole(alloc, self.files, self.input, path)
+        match read_whole(alloc, self.files, self.input, path) {
+            Ok(text) => Ok(text),
+            Err(Refusal::Memory) => Err(Refusal::Memory),
+            Err(_) => Err(Refusal::Read),
+        }
     }
 
     fn write_out(&mut self, octets: &[u8]) -> Result<(), Fault> {

@@ -1,7 +1,7 @@
 //! The requests that `jose-set` makes of the operating system. As in `jose::ReadFiles`, all that is known of an implementation is a relation:
 //! that these calls were made of it, in this order. A call adds itself, with its answer. So a function that promises which calls it made can
 //! have made no other.
-ghost use Rattle.std.specs.Prelude.{ℕ, List, option_map, IfOk};
+ghost use Rattle.std.specs.Prelude.{◌≡◌, ◌⊎◌, ℕ, List, option_map, IfOk, IfErr};
 ghost use Rattle.std.specs.Result.{is_ok, result_ok};
 ghost use Rattle.tools.specs.Calls.{Call, Makes, asked, tried, read, written_out, created, wrote, owned, synced, put, removed, folder_synced, as_done};
 
@@ -54,7 +54,8 @@ pub trait PutFiles {
 
     /// Reads the whole file of this name. `-` is standard input. Refuses with `Read` or `Memory`.
     fn read(&mut self, alloc: Global, path: &str) -> Result<Vec<u8>, Refusal>
-        ensures { Makes made self.old self.new (read path.now (option_map (λ octets. octets.items) (result_ok result))) };
+        ensures made { Makes made self.old self.new (read path.now (option_map (λ octets. octets.items) (result_ok result))) }
+        ensures refusal { IfErr result (λ refusal. refusal ≡ Refusal.Read ⊎ refusal ≡ Refusal.Memory) };
 
     /// Writes all of the octets to standard output, and finishes it.
     fn write_out(&mut self, octets: &[u8]) -> Result<(), Fault>

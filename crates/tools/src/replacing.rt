@@ -1,14 +1,11 @@
 //! New files that are put in the place of others.
 ghost use Rattle.std.specs.Prelude.{◌≡◌, Ok, IfOk};
-ghost use Rattle.std.specs.Prelude.{◌++◌};
-ghost use Rattle.tools.specs.Calls.{as_done, tried, wrote, owned, synced, put, folder_synced};
+ghost use Rattle.tools.specs.Calls.{as_done, tried, wrote, owned, synced, put};
 ghost use Rattle.tools.specs.Steps.{Takes, Calls};
-ghost use Rattle.tools.specs.SetViews.{seen};
-ghost use Rattle.tools.specs.Changes.{IsFile, by_kind, Examines, Creates, creation_cause, beside, Places, Fills, Refills, Deletes, EndsAt};
+ghost use Rattle.tools.specs.Changes.{IsFile, by_kind, Examines, Creates, creation_cause, Places, Fills, Refills, Deletes, EndsAt};
 
 use crate::put_files::{Kind, NotCreated, PutFiles};
 use crate::set_cause::{Place, SetCause, Why};
-use octets::Fault;
 
 /// The set that is changed must be a regular file that may be written.
 pub(crate) fn examine<D: PutFiles>(disk: &mut D, set: &str) -> Result<(), SetCause>

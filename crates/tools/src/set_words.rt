@@ -1,8 +1,8 @@
 //! Reading the words of `jose-set`.
-ghost use Rattle.std.specs.Prelude.{◌≡◌, ◌<◌, ℕ, length, map, count_by, string_bytes, option_map, Ok, Err};
+ghost use Rattle.std.specs.Prelude.{◌≡◌, ◌<◌, map, string_bytes, option_map, Ok, Err};
 ghost use Rattle.tools.specs.SetViews.{seen};
 ghost use Rattle.tools.specs.SetRequests.{asked_by};
-ghost use Rattle.tools.specs.SetWords.{is_input, is_option, operands, after, attached, reads_input_once, joining, joining_into, joining_by, joining_next, joining_of, adding_of, removing_of, set_request_of};
+ghost use Rattle.tools.specs.SetWords.{is_input, is_option, operands, after, attached, reads_input_once, joining, joining_into, joining_next, joining_of, adding_of, removing_of, set_request_of};
 
 use crate::set_cause::{SetCause, needs};
 

@@ -120,7 +120,9 @@ impl PutFiles for Files {
     }
 
     fn read(&mut self, alloc: Global, path: &str) -> Result<Vec<u8>, Refusal> {
-        self.call()?;
+        if self.call().is_err() {
+            return Err(Refusal::Read);
+        }
         match self.text_of(path) {
             Some(text) => Ok(copied(alloc, text)?),
             None => Err(Refusal::Read),
