@@ -30,7 +30,7 @@ from lib.sources import CRATES, ROOT, block_end, exported, fault, faults, functi
 RUN = "jose/src/entry.rt"
 CALLS_FOR_C = "lakhdzeva/src/lib.rt"
 # The files with the calls of the tools, from devices to devices.
-TOOLS = ("tools/src/verifying.rt",)
+TOOLS = ("tools/src/verifying.rt", "tools/src/changing.rt")
 # The part of a page's name that marks pages about values and calls of the code.
 CODE = "/Code."
 ORDER, OTHERS = "The pages in reading order", "What need not be read"

@@ -20,7 +20,7 @@ row fails, and so does a row whose code is not there exactly once.
 - A device that fails when it is told to, outside of the file that has it.
 - A number other than 0 in a function that answers with a status.
 Some things have no row, and always fail: a name that keeps memory from being let go (KEPT), such as `forget`; an import of all names of a
-module other than std's vectors; a public module other than `laws`. No name above, and not `Result`, may get another name, by `use .. as`, by
+module other than std's vectors; a public module other than `laws` and `line_laws`. No name above, and not `Result`, may get another name, by `use .. as`, by
 `type` or by importing the cases of an enum.
 
 What it cannot see:
@@ -160,8 +160,33 @@ PLACES = [
     ("tools/src/lib.rt", "", "use std::process::ExitCode;", "the status of the program"),
     ("toolbox/src/main.rt", "", "use std::process::ExitCode;", "the status of the program"),
     ("toolbox/src/main.rt", "main", "fn main(rt: HostRuntime) -> ExitCode { tools::start(rt) }", "it does nothing else"),
-    ("tools/src/lib.rt", "start", "fn start(rt: HostRuntime) -> ExitCode { let result = perform(rt.alloc(), &rt, rt.stdin(), rt.stdout()); "
-     "let mut errors = WriterOutput::new(rt.stderr()); ExitCode::from(report(result, &mut errors)) }", "the system and its streams"),
+    ("tools/src/lib.rt", "start", "fn start(rt: HostRuntime) -> ExitCode { let mut disk = Disk { files: &rt, input: rt.stdin(), output: rt.stdout(), }; "
+     "let mut errors = WriterOutput::new(rt.stderr()); ExitCode::from(perform(rt.alloc(), &rt, &mut disk, rt.stdin(), rt.stdout(), &mut errors,)) }", "the system and its streams"),
+    ("tools/src/lib.rt", "", "mod tests;", "its tests"),
+    ("tools/src/disk.rt", "", "use std::fs::{File, FileType, OpenOptions, Permissions, remove_file, rename, symlink_metadata};", "files"),
+    ("tools/src/disk.rt", "", "use std::os::fd::AsFd;", "the number of a new file, to give it an owner"),
+    ("tools/src/disk.rt", "", "use std::os::unix::fs::{MetadataExt, OpenOptionsExt, PermissionsExt, fchown};", "modes and owners"),
+    ("tools/src/disk.rt", "Disk::create_new", "match options.open(self.files, path) { Ok(file) => Ok(file), Err(e) => Err(why_not_created(e.kind())), }", "what the system answers"),
+    ("tools/src/disk.rt", "Disk::own_as", "let Ok(found) = symlink_metadata(self.files, old) else { return Err(Fault::Writing); };", "what the system answers of the old file"),
+    ("tools/src/disk.rt", "Disk::sync_folder", "let Ok(folder) = File::open(self.files, folder_of(path)) else { return Err(Fault::Writing); }; "
+     "match folder.sync_all() { Err(e) if cannot_be_synchronized(e.kind()) => Ok(()), answer => caused(answer), }", "what the system answers; that a folder cannot be synchronized is no failure"),
+    ("tools/src/disk.rt", "Disk::read", "match read_whole(alloc, self.files, self.input, path) { Ok(text) => Ok(text), Err(Refusal::Memory) => Err(Refusal::Memory), Err(_) => Err(Refusal::Read), }",
+     "the refusal of a reading"),
+    ("tools/src/disk.rt", "caused", "match answer { Ok(()) => Ok(()), Err(_) => Err(Fault::Writing), }", "what the system answers"),
+    ("tools/src/disk.rt", "why_not_created", "fn why_not_created(kind: ErrorKind) -> NotCreated { match kind { ErrorKind::AlreadyExists => NotCreated::Exists, _ => NotCreated::Failed, } }", "matched, and not made"),
+    ("tools/src/disk.rt", "cannot_be_synchronized", "fn cannot_be_synchronized(kind: ErrorKind) -> bool { matches!(kind, ErrorKind::InvalidInput | ErrorKind::Unsupported) }", "matched, and not made"),
+    ("tools/src/disk.rt", "write_whole_to", "match emit(&mut output, octets) { Ok(()) => Ok(()), Err(_) => Err(Fault::Writing), }", "the fault of an output"),
+    ("tools/src/replacing.rt", "needs_file", "by_kind(disk.kind(set))", "the kind of a file, which is no error"),
+    ("tools/src/changing.rt", "reading_cause", "match refusal { Refusal::Memory => SetCause::Memory, _ => SetCause::At(place, Why::Unread), }", "the refusal of a reading"),
+    ("tools/src/holding.rt", "refused_by", "Refusal::Memory => SetCause::Memory,", "the refusal of a reading"),
+    ("tools/src/joining.rt", "thumbprint_of", "match thumbprint(alloc, key, HashAlg::S256) { Ok(text) => Ok(Thumbprint { text }), Err(_) => Err(AllocError), }", "`thumbprint` refuses with Memory alone"),
+    ("tools/src/joining.rt", "are_octets_of", "same_octets(key.octets(), octets)", "two keys"),
+    ("tools/src/set_cause.rt", "", "#[derive(Drop)] pub enum SetCause { Usage, Memory, InputTwice, InputSet, Output, At(Place, Why), }", "the declaration"),
+    ("tools/src/set_cause.rt", "", "impl From<AllocError> for SetCause", "an allocation that std refused"),
+    ("tools/src/set_cause.rt", "SetCause::from", "fn from(_: AllocError) -> SetCause { SetCause::Memory }", "an allocation that std refused"),
+    ("tools/src/set_cause.rt", "", "impl<T: Drop> From<AllocFailed<T>> for SetCause", "an allocation that std refused"),
+    ("tools/src/set_cause.rt", "SetCause::from", "fn from(_: AllocFailed<T>) -> SetCause { SetCause::Memory }", "an allocation that std refused"),
+    ("tools/src/set_report.rt", "add_cause", "SetCause::Memory => add(line, \"jose-set: jose: 4 Memory\"),", "its text: matched, and not made"),
     ("jose/src/system.rt", "", "ReadFiles for HostRuntime", "the system"),
     ("jose/src/system.rt", "", "WriteFiles for HostRuntime", "the system"),
     ("jose/src/system.rt", "", "System for HostRuntime", "the system"),
@@ -368,7 +393,7 @@ def advice_at(part, at):
         return "world"
     if word[0].isdigit() and not re.match("0(_?[iu]|$)", word) and part.function and status_of(tokens) in STATUSES and crate in ("jose", "lakhdzeva"):
         return "status"
-    if word == "mod" and before == "pub" and after != "laws":
+    if word == "mod" and before == "pub" and after not in ("laws", "line_laws"):
         return "public"
     if word == "same_octets" or word in EQUALITIES and crate in COMPARING and not is_of_numbers(tokens, at):
         return "equality"

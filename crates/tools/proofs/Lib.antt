@@ -1,3 +1,13 @@
 pub mod Verified
 pub mod Headline
 pub mod Numbers
+pub mod Doing
+pub mod Objects
+pub mod JoinedKeys
+pub mod LeftObjects
+pub mod Printable
+pub mod WholeFiles
+pub mod KeyObjects
+pub mod SetLaws
+pub mod ChangeLaws
+pub mod ReportLaws

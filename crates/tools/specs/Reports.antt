@@ -1,7 +1,8 @@
 -- The last line of a tool, and its status.
-use Rattle.std.specs.Prelude.{ℕ, List, [], ◌∷◌, ◌++◌, codes, Result, Ok, Err}
+use Rattle.std.specs.Prelude.{◌≡◌, ℕ, List, [], ◌∷◌, ◌++◌, codes, Result, Ok, Err, OnOk, IfErr}
 use Rattle.std.specs.Str.{byte}
 use Rattle.octets.specs.declared.refusal.Refusal.TheVariants.{Usage}
+use Rattle.octets.specs.Devices.{AppendsPrefixOf}
 use Rattle.octets.specs.Refusals.{refusal_text}
 use Rattle.tools.specs.declared.cause.Cause.{Cause}
 use Rattle.tools.specs.declared.cause.Cause.TheVariants.{Refused, BadKeys, OtherNumber, SignAlike}
@@ -28,3 +29,9 @@ line_end cause = []
 
 abbrev pub report_line : Cause → List ℕ
 report_line cause = line_head cause ++ (line_end cause ++ byte "\n" ∷ [])
+
+-- The outcome is the status. After a refusal its line was written, as far as the output accepted it.
+pub record IsReported {O : Type 0} (written : O → List ℕ) (outcome : Result (Unit {0}) Cause) (status : ℕ) (before after : O) : Type 0 where
+  pub is : status ≡ status_of outcome
+  pub quiet : OnOk outcome (after ≡ before)
+  pub line : IfErr outcome (λ cause. AppendsPrefixOf (report_line cause) (written before) (written after))

@@ -1,5 +1,5 @@
 -- What a tool does with its arguments.
-use Rattle.std.specs.Prelude.{◌≡◌, ℕ, List, Result, Ok, Err, MatchResult}
+use Rattle.std.specs.Prelude.{◌≡◌, ℕ, List, [], Some, None, Result, Ok, Err, MatchResult}
 use Rattle.octets.specs.declared.refusal.Refusal.{Refusal}
 use Rattle.octets.specs.declared.streams.ReaderInput.{ReaderInput}
 use Rattle.octets.specs.declared.streams.WriterOutput.{WriterOutput}
@@ -13,7 +13,15 @@ use Rattle.jose.specs.Files.{AreNewInputs, AreNewOutputs}
 use Rattle.tools.specs.declared.cause.Cause.{Cause}
 use Rattle.tools.specs.declared.cause.Cause.TheVariants.{Refused}
 use Rattle.tools.specs.declared.words.Tool.{Tool}
-use Rattle.tools.specs.declared.words.Tool.TheVariants.{VerifyAll}
+use Rattle.tools.specs.declared.words.Tool.TheVariants.{VerifyAll, Set}
+use Rattle.tools.specs.declared.set_cause.SetCause.{SetCause}
+use Rattle.tools.specs.Calls.{Call}
+use Rattle.tools.specs.Changes.{Changes, Asked, joins, adds, removes}
+use Rattle.tools.specs.Reports.{IsReported}
+use Rattle.tools.specs.SetEndings.{IsSetReported}
+use Rattle.tools.specs.SetReports.{NamedWords}
+use Rattle.tools.specs.SetWords.{set_request_of}
+use Rattle.tools.specs.Steps.{Takes}
 use Rattle.tools.specs.VerifyAll.{VerifiesAll}
 use Rattle.tools.specs.Words.{RequestView, request_of, tool_of}
 
@@ -33,11 +41,31 @@ pub record IsRun (R U F : Type 0) (request : RequestView) (result : Result (Unit
 abbrev pub VerifiesAsAsked : (R U F : Type 0) → List (List ℕ) → Result (Unit {0}) Cause → Type 0
 VerifiesAsAsked R U F words result = MatchResult (request_of words) (λ request. IsRun R U F request result) (λ refusal. result ≡ Err (Refused refusal))
 
-abbrev pub Serves : (R U F : Type 0) → Tool → List (List ℕ) → Result (Unit {0}) Cause → Type 0
-Serves R U F VerifyAll words result = VerifiesAsAsked R U F words result
+-- the words that a cause of jose-set may name
+abbrev pub words_of : Asked → NamedWords
+words_of (joins None files) = record { target = []; others = files }
+words_of (joins (Some new) files) = record { target = new; others = files }
+words_of (adds set files) = record { target = set; others = files }
+words_of (removes set thumbprints) = record { target = set; others = thumbprints }
 
--- If the system refuses to return the arguments, or they name no tool, that refusal is the result. Otherwise the tool gets its words.
-abbrev pub Performs : (R U F : Type 0) → Result (List (List ℕ)) Refusal → Result (Unit {0}) Cause → Type 0
-Performs R U F (Err refusal) result = result ≡ Err (Refused refusal)
-Performs R U F (Ok arguments) result =
-    MatchResult (tool_of arguments) (λ found. Serves R U F found.0 found.1 result) (λ refusal. result ≡ Err (Refused refusal))
+abbrev pub no_words : NamedWords
+no_words = record { target = []; others = [] }
+
+-- Words that ask for nothing are refused, and nothing is called. Otherwise the calls are those of what the words ask for.
+abbrev pub SetsAsAsked : {D O : Type 0} → (D → List Call → Type 0) → (O → List ℕ) → List (List ℕ) → D → D → ℕ → O → O → Type 0
+SetsAsAsked made written words old new status before after = MatchResult (set_request_of words)
+    (λ asked. (outcome : Result (Unit {0}) SetCause) × (Takes made old new (Changes asked) outcome
+    × IsSetReported written (words_of asked) outcome status before after))
+    (λ cause. (new ≡ old) × IsSetReported written no_words (Err cause) status before after)
+
+abbrev pub Serves : {D O : Type 0} → (D → List Call → Type 0) → (O → List ℕ) → (R U F : Type 0) → Tool → List (List ℕ) → D → D → ℕ → O → O → Type 0
+Serves made written R U F VerifyAll words old new status before after =
+    (outcome : Result (Unit {0}) Cause) × (VerifiesAsAsked R U F words outcome × IsReported written outcome status before after)
+Serves made written R U F Set words old new status before after = SetsAsAsked made written words old new status before after
+
+-- If the system refuses to return the arguments, or they name no tool, that refusal is reported. Otherwise the tool gets its words.
+abbrev pub Performs : {D O : Type 0} → (D → List Call → Type 0) → (O → List ℕ) → (R U F : Type 0) → Result (List (List ℕ)) Refusal → D → D → ℕ → O → O → Type 0
+Performs made written R U F (Err refusal) old new status before after = IsReported written (Err (Refused refusal)) status before after
+Performs made written R U F (Ok arguments) old new status before after =
+    MatchResult (tool_of arguments) (λ found. Serves made written R U F found.0 found.1 old new status before after)
+    (λ refusal. IsReported written (Err (Refused refusal)) status before after)

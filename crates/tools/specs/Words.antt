@@ -11,16 +11,17 @@ use Rattle.octets.specs.Outcomes.{◌>>=◌}
 use Rattle.jose.specs.Invocations.{InvocationView, invocation_view}
 use Rattle.jose.specs.Words.{invocation_of}
 use Rattle.tools.specs.declared.words.Tool.{Tool}
-use Rattle.tools.specs.declared.words.Tool.TheVariants.{VerifyAll}
+use Rattle.tools.specs.declared.words.Tool.TheVariants.{VerifyAll, Set}
 use Rattle.tools.specs.declared.words.VerifyAllRequest.{VerifyAllRequest}
 
 -- ---- the tool (docs/SPECIFICATION.md "Tools")
 
 abbrev pub tool_name : Tool → List ℕ
 tool_name VerifyAll = codes "jose-verify-all"
+tool_name Set = codes "jose-set"
 
 abbrev pub tools : List Tool
-tools = VerifyAll ∷ []
+tools = VerifyAll ∷ Set ∷ []
 
 -- the tool of this name
 unfoldable pub tool_named : List ℕ → Option Tool

@@ -1,5 +1,11 @@
 //! Laws of the answers of the tools. Each law is the contract of a function that does nothing.
 ghost use Rattle.tools.specs.Headline.{EachKeyVerifies, OtherNumberIsRefused, AlikeKeysAreRefused, KeyTwiceIsRefused};
+ghost use Rattle.tools.specs.ChangeLaws.{AddsAreWhole, RefusalsDeleteWhatIsNew, RefusalsReplaceNothing, RemovalsAreWhole};
+ghost use Rattle.tools.specs.SetHeadline.{AddedKeysReadBack, JoinedAloneIsTheSame, JoinedKeysReadBack, LeftKeysReadBack};
+
+use keys::laws::{
+    compact_text_reads_back, members_keep_json, url_texts_are_json, what_is_read_is_json,
+};
 
 /// An object that `jose-verify-all` accepts is accepted by `jws ver` with each of the keys alone, and there are as many keys as was asked
 /// for. If there is one less or one more, or if two of them sign alike, the refusal is `Key`, and so nothing is written.
@@ -8,4 +14,49 @@ pub fn each_signer_signed()
     ensures number { OtherNumberIsRefused }
     ensures alike { AlikeKeysAreRefused }
     ensures twice { KeyTwiceIsRefused }
+{}
+
+/// What `join` and `add` write reads as exactly the keys of the texts, in order, none of which is there twice.
+pub fn joined_keys_read_back()
+    ensures joined { JoinedKeysReadBack }
+    ensures added { AddedKeysReadBack }
+{
+    what_is_read_is_json();
+    members_keep_json();
+    compact_text_reads_back();
+    url_texts_are_json();
+}
+
+/// What is joined alone is the same text.
+pub fn joined_alone_is_the_same()
+    ensures { JoinedAloneIsTheSame }
+{
+    what_is_read_is_json();
+    members_keep_json();
+    compact_text_reads_back();
+    url_texts_are_json();
+}
+
+/// What `remove` writes reads as exactly the keys of the set whose thumbprint is not named, in order.
+pub fn left_keys_read_back()
+    ensures { LeftKeysReadBack }
+{
+    what_is_read_is_json();
+    members_keep_json();
+    compact_text_reads_back();
+    url_texts_are_json();
+}
+
+/// After success exactly the calls of the protocol were made, in their order, and what was put in the place of the set is the text of the
+/// answer to what was read.
+pub fn edits_are_whole()
+    ensures adds { AddsAreWhole }
+    ensures removals { RemovalsAreWhole }
+{}
+
+/// After a refusal no file was put in the place of another, and each file that was created was deleted, or the system refused to; except if
+/// the folder alone was not brought to the disk.
+pub fn refusals_change_nothing()
+    ensures replaced { RefusalsReplaceNothing }
+    ensures deleted { RefusalsDeleteWhatIsNew }
 {}

@@ -6,21 +6,40 @@
 #![tactic(auto)]
 
 ghost use Rattle.std.specs.Prelude.{◌≡◌, ◌⊎◌, ℕ, List, map, string_bytes, Result as Answer, Err};
-ghost use Rattle.octets.specs.declared.refusal.Refusal.{Refusal as Kind};
+ghost use Rattle.octets.specs.declared.refusal.Refusal.{Refusal as Refused};
 ghost use Rattle.jose.specs.System.{AreHeld};
-ghost use Rattle.tools.specs.Runs.{Performs, VerifiesAsAsked};
+ghost use Rattle.tools.specs.Reports.{IsReported};
+ghost use Rattle.tools.specs.Runs.{Performs, SetsAsAsked, VerifiesAsAsked};
 
 mod cause;
+mod changing;
+mod disk;
 mod ending;
+mod holding;
+mod joining;
 pub mod laws;
+pub mod line_laws;
+mod put_files;
+mod removing;
+mod replacing;
+mod set_cause;
+mod set_report;
+mod set_words;
+mod sets;
 mod verifying;
 mod words;
 
+use crate::disk::Disk;
+use crate::set_report::{no_words, report_set, words_of};
 use crate::words::tool_of;
 pub use cause::Cause;
+pub use changing::change_set;
 pub use ending::report;
 use jose::{System, inputs, outputs, placeholders};
-use octets::{Refusal, WriterOutput};
+use octets::{Output, Refusal, WriterOutput};
+pub use put_files::{Kind, NotCreated, PutFiles};
+pub use set_cause::{Place, SetCause, Thumbprint, Why};
+pub use set_words::{SetRequest, parse_set};
 use std::alloc::Global;
 use std::io::{Stdin, Stdout};
 use std::os::fd::AsRawFd;
@@ -28,17 +47,55 @@ use std::process::ExitCode;
 pub use verifying::verify_all;
 pub use words::{Tool, VerifyAllRequest, parse_verify_all};
 
-/// Reads the arguments and does what they ask, over files and the standard streams. Arguments that are not UTF-8 name no tool.
-fn perform<S: System>(alloc: Global, system: &S, stdin: Stdin, stdout: Stdout) -> Result<(), Cause>
+/// Reads the arguments, does what they ask, over files and the standard streams, and reports a refusal. Returns the program's status.
+/// Arguments that are not UTF-8 name no tool.
+fn perform<S: System, D: PutFiles, O: Output>(
+    alloc: Global,
+    system: &S,
+    disk: &mut D,
+    stdin: Stdin,
+    stdout: Stdout,
+    errors: &mut O,
+) -> u8
 where
     S::File: AsRawFd,
-    ensures { result ≡ Err (Cause.Refused Refusal.Memory) ⊎ ((args : Answer (List (List ℕ)) Kind) × (S.args_gives system.now args × Performs S S.Uncut S.File args result)) }
+    ensures { IsReported O.written (Err (Cause.Refused Refusal.Memory)) result errors.old errors.new
+        ⊎ ((args : Answer (List (List ℕ)) Refused) × (S.args_gives system.now args
+        × Performs D.made O.written S S.Uncut S.File args disk.old disk.new result errors.old errors.new)) }
 {
-    let held = placeholders(system)?;
-    let args = system.args()?;
-    let (tool, words) = tool_of(args.as_slice())?;
-    match tool {
-        Tool::VerifyAll => serve_verify_all(alloc, system, stdin, stdout, words, &held),
+    let held = match placeholders(system) {
+        Ok(held) => held,
+        Err(refusal) => return report(Err(Cause::Refused(refusal)), errors),
+    };
+    let args = match system.args() {
+        Ok(args) => args,
+        Err(refusal) => return report(Err(Cause::Refused(refusal)), errors),
+    };
+    match tool_of(args.as_slice()) {
+        Ok((Tool::VerifyAll, words)) => {
+            let outcome = serve_verify_all(alloc, system, stdin, stdout, words, &held);
+            report(outcome, errors)
+        }
+        Ok((Tool::Set, words)) => serve_set(alloc, disk, words, errors),
+        Err(refusal) => report(Err(Cause::Refused(refusal)), errors),
+    }
+}
+
+/// Does what the words ask of `jose-set`, and reports a refusal.
+fn serve_set<D: PutFiles, O: Output>(
+    alloc: Global,
+    disk: &mut D,
+    words: &[String],
+    errors: &mut O,
+) -> u8
+    ensures { SetsAsAsked D.made O.written (map string_bytes words.now) disk.old disk.new result errors.old errors.new }
+{
+    match parse_set(words) {
+        Ok(request) => {
+            let outcome = change_set(alloc, disk, request);
+            report_set(alloc, words_of(request), outcome, errors)
+        }
+        Err(cause) => report_set(alloc, no_words(), Err(cause), errors),
     }
 }
 
@@ -71,7 +128,21 @@ where
 /// Does what the program's arguments ask, over files and the standard streams, and reports a refusal on standard error. The status is 0
 /// after success and 1 after a refusal.
 pub fn start(rt: HostRuntime) -> ExitCode {
-    let result = perform(rt.alloc(), &rt, rt.stdin(), rt.stdout());
+    let mut disk = Disk {
+        files: &rt,
+        input: rt.stdin(),
+        output: rt.stdout(),
+    };
     let mut errors = WriterOutput::new(rt.stderr());
-    ExitCode::from(report(result, &mut errors))
+    ExitCode::from(perform(
+        rt.alloc(),
+        &rt,
+        &mut disk,
+        rt.stdin(),
+        rt.stdout(),
+        &mut errors,
+    ))
 }
+
+#[cfg(test)]
+mod tests;

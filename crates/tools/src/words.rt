@@ -12,6 +12,8 @@ use std::alloc::{AllocError, Global};
 pub enum Tool {
     /// `jose-verify-all`: verifies an object by each of a number of signers.
     VerifyAll,
+    /// `jose-set`: joins keys into a set, and adds and removes keys.
+    Set,
 }
 
 /// What `jose-verify-all` is asked for.
@@ -54,6 +56,7 @@ fn tool_named(name: &str) -> Option<Tool>
 {
     match name {
         "jose-verify-all" => Some(Tool::VerifyAll),
+        "jose-set" => Some(Tool::Set),
         _ => None,
     }
 }
@@ -65,6 +68,8 @@ fn tool_at(path: &str) -> Option<Tool>
 {
     if is_path_of(path.as_bytes(), b"jose-verify-all") {
         Some(Tool::VerifyAll)
+    } else if is_path_of(path.as_bytes(), b"jose-set") {
+        Some(Tool::Set)
     } else {
         None
     }

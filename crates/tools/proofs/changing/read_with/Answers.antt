@@ -1,0 +1,11 @@
+use Rattle.tools.specs.Sets.{with_text}
+use Rattle.tools.specs.SetViews.{joined_view}
+use Rattle.tools.proofs.Doing.{judged_by, returned_seen, went_on}
+use Rattle.tools.proofs.changing.read_with.Goals as goal
+
+pub returns-in_err-text : goal.returns-in_err-text
+returns-in_err-text g c = returned_seen joined_view _ c.in_err-text.ensures c.from_residual.ensures.1
+
+pub returns : goal.returns
+returns g c = went_on _ c.in_ok-text.ensures (judged_by joined_view c.with_text.result (with_text c.args.place (joined_view c.args.joined)) _
+    c.deref.result.now c.deref.ensures.value c.with_text.ensures)

@@ -1,0 +1,183 @@
+//! New files that are put in the place of others.
+ghost use Rattle.std.specs.Prelude.{◌≡◌, Ok, IfOk};
+ghost use Rattle.tools.specs.Calls.{as_done, tried, wrote, owned, synced, put};
+ghost use Rattle.tools.specs.Steps.{Takes, Calls};
+ghost use Rattle.tools.specs.Changes.{IsFile, by_kind, Examines, Creates, creation_cause, Places, Fills, Refills, Deletes, EndsAt};
+
+use crate::put_files::{Kind, NotCreated, PutFiles};
+use crate::set_cause::{Place, SetCause, Why};
+
+/// The set that is changed must be a regular file that may be written.
+pub(crate) fn examine<D: PutFiles>(disk: &mut D, set: &str) -> Result<(), SetCause>
+    ensures { Takes D.made disk.old disk.new (Examines set.now) result }
+{
+    needs_file(disk, set)?;
+    needs_writable(disk, set)
+}
+
+/// Refuses unless the name itself is that of a regular file.
+fn needs_file<D: PutFiles>(disk: &mut D, set: &str) -> Result<(), SetCause>
+    ensures { Takes D.made disk.old disk.new (IsFile set.now) result }
+{
+    by_kind(disk.kind(set))
+}
+
+fn by_kind(kind: Kind) -> Result<(), SetCause>
+    ensures { result ≡ by_kind kind }
+{
+    match kind {
+        Kind::File => Ok(()),
+        Kind::Link => Err(SetCause::At(Place::Target, Why::Link)),
+        Kind::Other => Err(SetCause::At(Place::Target, Why::NoFile)),
+    }
+}
+
+fn needs_writable<D: PutFiles>(disk: &mut D, set: &str) -> Result<(), SetCause>
+    ensures { Takes D.made disk.old disk.new (Calls (tried set.now) (SetCause.At Place.Target Why.NotWritable)) result }
+{
+    if disk.may_write(set) {
+        Ok(())
+    } else {
+        Err(SetCause::At(Place::Target, Why::NotWritable))
+    }
+}
+
+/// Creates a new file. If there is one, `taken` says why it is refused.
+pub(crate) fn create<D: PutFiles>(
+    disk: &mut D,
+    path: &str,
+    place: Place,
+    taken: Why,
+) -> Result<D::New, SetCause>
+    ensures takes { Takes D.made disk.old disk.new (Creates path.now place taken) (as_done result) }
+    ensures name { IfOk result (λ new. D.is_new new path.now) }
+{
+    match disk.create_new(path) {
+        Ok(new) => Ok(new),
+        Err(failure) => Err(creation_cause(place, taken, failure)),
+    }
+}
+
+fn creation_cause(place: Place, taken: Why, failure: NotCreated) -> SetCause
+    ensures { result ≡ creation_cause place taken failure }
+{
+    match failure {
+        NotCreated::Exists => SetCause::At(place, taken),
+        NotCreated::Failed => SetCause::At(place, Why::NotCreated),
+    }
+}
+
+/// Deletes the file after a refusal.
+pub(crate) fn delete_after<D: PutFiles>(
+    disk: &mut D,
+    path: &str,
+    place: Place,
+    outcome: Result<(), SetCause>,
+) -> Result<(), SetCause>
+    ensures { Takes D.made disk.old disk.new (Deletes path.now place outcome) result }
+{
+    match outcome {
+        Ok(()) => Ok(()),
+        Err(cause) => match disk.remove(path) {
+            Ok(()) => Err(cause),
+            Err(_) => Err(SetCause::At(place, Why::NotDeleted)),
+        },
+    }
+}
+
+/// Brings the folder of the file that was changed to the disk.
+pub(crate) fn end_at<D: PutFiles>(disk: &mut D, target: &str) -> Result<(), SetCause>
+    ensures { Takes D.made disk.old disk.new (EndsAt target.now) result }
+{
+    match disk.sync_folder(target) {
+        Ok(()) => Ok(()),
+        Err(_) => Err(SetCause::At(Place::Target, Why::FolderNotOnDisk)),
+    }
+}
+
+/// Writes the text to the new file, and puts this in the place of the target.
+pub(crate) fn fill<D: PutFiles>(
+    disk: &mut D,
+    mut new: D::New,
+    path: &str,
+    target: &str,
+    text: &str,
+) -> Result<(), SetCause>
+    requires { D.is_new new path.now }
+    ensures { Takes D.made disk.old disk.new (Fills path.now target.now text.now) result }
+{
+    write(disk, &mut new, path, text)?;
+    place(disk, new, path, target)
+}
+
+/// So it does, and gives the new file the mode and the owner of the target.
+pub(crate) fn refill<D: PutFiles>(
+    disk: &mut D,
+    mut new: D::New,
+    path: &str,
+    target: &str,
+    text: &str,
+) -> Result<(), SetCause>
+    requires { D.is_new new path.now }
+    ensures { Takes D.made disk.old disk.new (Refills path.now target.now text.now) result }
+{
+    write(disk, &mut new, path, text)?;
+    own(disk, &new, path, target)?;
+    place(disk, new, path, target)
+}
+
+fn write<D: PutFiles>(
+    disk: &mut D,
+    new: &mut D::New,
+    path: &str,
+    text: &str,
+) -> Result<(), SetCause>
+    requires { D.is_new new.old path.now }
+    ensures takes { Takes D.made disk.old disk.new (Calls (wrote path.now text.now) (SetCause.At Place.Beside Why.NotWritten)) result }
+    ensures name { D.is_new new.new path.now }
+{
+    match disk.write(new, path, text.as_bytes()) {
+        Ok(()) => Ok(()),
+        Err(_) => Err(SetCause::At(Place::Beside, Why::NotWritten)),
+    }
+}
+
+fn own<D: PutFiles>(disk: &mut D, new: &D::New, path: &str, old: &str) -> Result<(), SetCause>
+    requires { D.is_new new.now path.now }
+    ensures { Takes D.made disk.old disk.new (Calls (owned path.now old.now) (SetCause.At Place.Beside Why.NotWritten)) result }
+{
+    match disk.own_as(new, path, old) {
+        Ok(()) => Ok(()),
+        Err(_) => Err(SetCause::At(Place::Beside, Why::NotWritten)),
+    }
+}
+
+/// Brings the new file to the disk, and only then puts it in the place of the target.
+fn place<D: PutFiles>(disk: &mut D, new: D::New, path: &str, target: &str) -> Result<(), SetCause>
+    requires { D.is_new new path.now }
+    ensures { Takes D.made disk.old disk.new (Places path.now target.now) result }
+{
+    let file = sync(disk, new, path)?;
+    put(disk, file, path, target)
+}
+
+fn sync<D: PutFiles>(disk: &mut D, new: D::New, path: &str) -> Result<D::Synced, SetCause>
+    requires { D.is_new new path.now }
+    ensures takes { Takes D.made disk.old disk.new (Calls (synced path.now) (SetCause.At Place.Beside Why.NotOnDisk)) (as_done result) }
+    ensures name { IfOk result (λ file. D.is_synced file path.now) }
+{
+    match disk.sync(new, path) {
+        Ok(file) => Ok(file),
+        Err(_) => Err(SetCause::At(Place::Beside, Why::NotOnDisk)),
+    }
+}
+
+fn put<D: PutFiles>(disk: &mut D, file: D::Synced, from: &str, to: &str) -> Result<(), SetCause>
+    requires { D.is_synced file from.now }
+    ensures { Takes D.made disk.old disk.new (Calls (put from.now to.now) (SetCause.At Place.Target Why.NotReplaced)) result }
+{
+    match disk.put(file, from, to) {
+        Ok(()) => Ok(()),
+        Err(_) => Err(SetCause::At(Place::Target, Why::NotReplaced)),
+    }
+}
