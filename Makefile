@@ -108,8 +108,8 @@ pictures:
 	@scripts/pictures
 
 # Compares the pages and the completions with the program's table of commands and its limits, the limits and refusals of the bindings with
-# the code, the pictures with their figures, and the numbers of docs/TESTING.md with the sources. It refuses long sentences in the pages for
-# users. It tries the refusals that the pages list, the completions, install and uninstall, and runs shellcheck on the scripts that are
+# the code, the pictures with their figures, and the numbers of docs/TESTING.md with the sources. It refuses long sentences in the pages.
+# It tries the refusals that the pages list, the completions, install and uninstall, and runs shellcheck on the scripts that are
 # installed.
 pages:
 	@scripts/pages
@@ -145,9 +145,10 @@ dist:
 dist-try:
 	@scripts/dist-try
 
-# Installs the programs that `make build` made, with the tools, man pages, completions, recipes and documents for users. It lists the files
-# and their checksums in share/doc/lakhdzeva/installed. If it would overwrite a file that no install listed, or one that was changed since,
-# it names the file and changes nothing. With FORCE=1 it overwrites these files.
+# Installs the programs that `make build` made, with the tools, man pages, completions, recipes and documents. Those for auditors and
+# maintainers are in the folder internals. It lists the files and their checksums in share/doc/lakhdzeva/installed. If it would overwrite
+# a file that no install listed, or one that was changed since, it names the file and changes nothing. With FORCE=1 it overwrites these
+# files.
 install:
 	@$(BUILT)
 	@scripts/install $(if $(filter 1,$(FORCE)),--force) "$(DESTDIR)$(PREFIX)"

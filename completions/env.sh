@@ -9,7 +9,7 @@ case $- in
         elif [ -n "${ZSH_VERSION-}" ]; then
             # Where compinit comes later, it finds the completion by fpath.
             eval 'fpath=(/usr/lib/lakhdzeva/share/zsh/site-functions $fpath)
-            if (( $+functions[compdef] )); then autoload -Uz _jose; compdef _jose jose; fi'
+            if (( $+functions[compdef] )); then autoload -Uz _jose; compdef _jose jose jose-{look,password,set,verify-all}; fi'
         fi
         ;;
 esac

@@ -39,9 +39,10 @@ join release.ann release.bob > release.jws
 jose-set join -o people.jwks ann.jwk bob.jwk
 jose-verify-all 2 people.jwks -i release.jws -I release
 
-# A third person: the key is added to the set. Then all three must sign.
+# A third person: the key is added to the set. Then two of the three are enough for one rule, and another wants all three.
 jose jwk gen -i '{"alg":"HS256","kid":"eve"}' -o eve.jwk
 jose-set add people.jwks eve.jwk
+jose-verify-all 2/3 people.jwks -i release.jws -I release
 jose jws sig -c -k eve.jwk -I release -o release.eve -O /dev/null
 join release.ann release.bob release.eve > release.jws
 jose-verify-all 3 people.jwks -i release.jws -I release

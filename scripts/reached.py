@@ -30,7 +30,9 @@ from lib.sources import CRATES, ROOT, block_end, exported, fault, faults, functi
 RUN = "jose/src/entry.rt"
 CALLS_FOR_C = "lakhdzeva/src/lib.rt"
 # The files with the calls of the tools, from devices to devices.
-TOOLS = ("tools/src/verifying.rt", "tools/src/changing.rt")
+TOOLS = ("tools/src/verifying.rt", "tools/src/changing.rt", "tools/src/looking.rt")
+# The text of a refusal, which a tool shows. scripts/refusals makes the program give each of them.
+TEXTS = {("octets.specs.Refusals", "refusal_text")}
 # The part of a page's name that marks pages about values and calls of the code.
 CODE = "/Code."
 ORDER, OTHERS = "The pages in reading order", "What need not be read"
@@ -236,7 +238,7 @@ def reach(library, roots):
         if node not in seen:
             seen.add(node)
             left += library.uses(node)
-    return {it[1:] for it in seen if it[0] == "definition"}
+    return {it[1:] for it in seen if it[0] == "definition"} - TEXTS
 
 
 # ---- the promises, and docs/AUDIT.md

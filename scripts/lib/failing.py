@@ -1,8 +1,8 @@
 """Programs that fail. A trial runs once with a wrapper in the place of each program of the path, which counts its calls. Then it runs again
 for each call that was counted, and that call fails in one of the ways of WAYS. No run may end with 0 and another result than the first one.
 
-Some programs also end with 0, and do half of their work or nothing. A tool can notice this of each program that it calls, except of `jose`
-and of what reads an input first: `tr` in jose-look. A recipe cannot: the content is what `tar`, `head` or `cat` says that it is.
+Some programs also end with 0, and do half of their work or nothing. A tool can notice this of each program that it calls, except of `jose`.
+A recipe cannot: the content is what `tar`, `head` or `cat` says that it is.
 """
 import os, pathlib, shlex, shutil, subprocess
 

@@ -20,8 +20,8 @@ row fails, and so does a row whose code is not there exactly once.
 - A device that fails when it is told to, outside of the file that has it.
 - A number other than 0 in a function that answers with a status.
 Some things have no row, and always fail: a name that keeps memory from being let go (KEPT), such as `forget`; an import of all names of a
-module other than std's vectors; a public module other than `laws` and `line_laws`. No name above, and not `Result`, may get another name, by `use .. as`, by
-`type` or by importing the cases of an enum.
+module other than std's vectors; a public module other than `laws`, and `line_laws` in tools. No name above, and not `Result`, may get
+another name, by `use .. as`, by `type` or by importing the cases of an enum.
 
 What it cannot see:
 - a needless growth that is made from the input's own octets, by loops through a list that there is, or by a function that calls itself;
@@ -163,6 +163,7 @@ PLACES = [
     ("tools/src/lib.rt", "start", "fn start(rt: HostRuntime) -> ExitCode { let mut disk = Disk { files: &rt, input: rt.stdin(), output: rt.stdout(), }; "
      "let mut errors = WriterOutput::new(rt.stderr()); ExitCode::from(perform(rt.alloc(), &rt, &mut disk, rt.stdin(), rt.stdout(), &mut errors,)) }", "the system and its streams"),
     ("tools/src/lib.rt", "", "mod tests;", "its tests"),
+    ("tools/src/lib.rt", "", "mod command_tests;", "tests of words"),
     ("tools/src/disk.rt", "", "use std::fs::{File, FileType, OpenOptions, Permissions, remove_file, rename, symlink_metadata};", "files"),
     ("tools/src/disk.rt", "", "use std::os::fd::AsFd;", "the number of a new file, to give it an owner"),
     ("tools/src/disk.rt", "", "use std::os::unix::fs::{MetadataExt, OpenOptionsExt, PermissionsExt, fchown};", "modes and owners"),
@@ -177,16 +178,28 @@ PLACES = [
     ("tools/src/disk.rt", "cannot_be_synchronized", "fn cannot_be_synchronized(kind: ErrorKind) -> bool { matches!(kind, ErrorKind::InvalidInput | ErrorKind::Unsupported) }", "matched, and not made"),
     ("tools/src/disk.rt", "write_whole_to", "match emit(&mut output, octets) { Ok(()) => Ok(()), Err(_) => Err(Fault::Writing), }", "the fault of an output"),
     ("tools/src/replacing.rt", "needs_file", "by_kind(disk.kind(set))", "the kind of a file, which is no error"),
-    ("tools/src/changing.rt", "reading_cause", "match refusal { Refusal::Memory => SetCause::Memory, _ => SetCause::At(place, Why::Unread), }", "the refusal of a reading"),
-    ("tools/src/holding.rt", "refused_by", "Refusal::Memory => SetCause::Memory,", "the refusal of a reading"),
+    ("tools/src/changing.rt", "reading_cause", "match refusal { Refusal::Memory => ToolCause::Memory, _ => ToolCause::At(place, Why::Unread), }", "the refusal of a reading"),
+    ("tools/src/holding.rt", "refused_by", "Refusal::Memory => ToolCause::Memory,", "the refusal of a reading"),
+    ("tools/src/command_files.rt", "", "use std::fs::{File, metadata};", "files"),
+    ("tools/src/command_files.rt", "Disk::find", "Err(e) => why_not_found(e.kind()),", "what the system answers"),
+    ("tools/src/command_files.rt", "why_not_found", "fn why_not_found(kind: ErrorKind) -> Found { match kind { ErrorKind::NotFound | ErrorKind::NotADirectory => Found::Missing, _ => Found::Closed, } }", "matched, and not made"),
+    ("tools/src/look_requests.rt", "explained", "match explain(alloc, &*disk, words) { Ok(text) => Ok(text), Err(_) => Err(ToolCause::Memory), }", "`explain` refuses with Memory alone"),
+    ("tools/src/command.rt", "explain", "Err(Refusal::Memory) => Err(Refusal::Memory),", "passed on"),
+    ("tools/src/command.rt", "add_command_cause", "Some(WordFault::Memory) => return Err(Refusal::Memory),", "passed on"),
+    ("tools/src/command_lines.rt", "fault_line", "WordFault::Memory => Ok(Vec::new(alloc)),", "matched, and not made"),
+    ("tools/src/command_words.rt", "", "pub(crate) enum WordFault { Memory, Long(usize), Stray(usize), Unknown(u8), Twice(u8), NoValue(u8), Missing(char), Inputs, Outputs, NoHash(char), }", "the declaration"),
+    ("tools/src/command_words.rt", "", "impl From<AllocError> for WordFault", "an allocation that std refused"),
+    ("tools/src/command_words.rt", "WordFault::from", "fn from(_: AllocError) -> WordFault { WordFault::Memory }", "an allocation that std refused"),
     ("tools/src/joining.rt", "thumbprint_of", "match thumbprint(alloc, key, HashAlg::S256) { Ok(text) => Ok(Thumbprint { text }), Err(_) => Err(AllocError), }", "`thumbprint` refuses with Memory alone"),
     ("tools/src/joining.rt", "are_octets_of", "same_octets(key.octets(), octets)", "two keys"),
-    ("tools/src/set_cause.rt", "", "#[derive(Drop)] pub enum SetCause { Usage, Memory, InputTwice, InputSet, Output, At(Place, Why), }", "the declaration"),
-    ("tools/src/set_cause.rt", "", "impl From<AllocError> for SetCause", "an allocation that std refused"),
-    ("tools/src/set_cause.rt", "SetCause::from", "fn from(_: AllocError) -> SetCause { SetCause::Memory }", "an allocation that std refused"),
-    ("tools/src/set_cause.rt", "", "impl<T: Drop> From<AllocFailed<T>> for SetCause", "an allocation that std refused"),
-    ("tools/src/set_cause.rt", "SetCause::from", "fn from(_: AllocFailed<T>) -> SetCause { SetCause::Memory }", "an allocation that std refused"),
-    ("tools/src/set_report.rt", "add_cause", "SetCause::Memory => add(line, \"jose-set: jose: 4 Memory\"),", "its text: matched, and not made"),
+    ("tools/src/tool_cause.rt", "", "#[derive(Drop)] pub enum ToolCause { Usage, Memory, InputTwice, InputSet, Output, NotAllRead, At(Place, Why), }", "the declaration"),
+    ("tools/src/tool_cause.rt", "", "impl From<AllocError> for ToolCause", "an allocation that std refused"),
+    ("tools/src/tool_cause.rt", "ToolCause::from", "fn from(_: AllocError) -> ToolCause { ToolCause::Memory }", "an allocation that std refused"),
+    ("tools/src/tool_cause.rt", "", "impl<T: Drop> From<AllocFailed<T>> for ToolCause", "an allocation that std refused"),
+    ("tools/src/tool_cause.rt", "ToolCause::from", "fn from(_: AllocFailed<T>) -> ToolCause { ToolCause::Memory }", "an allocation that std refused"),
+    ("tools/src/looking.rt", "open", "Err(Refusal::Memory) => Err(ToolCause::Memory),", "the refusal of a reading"),
+    ("tools/src/tool_cause.rt", "unless_memory", "match refusal { Refusal::Memory => Err(AllocError), other => Ok(other), }", "a refusal of memory"),
+    ("tools/src/tool_report.rt", "add_cause", "ToolCause::Memory => add_named(line, words.tool, \": jose: 4 Memory\"),", "its text: matched, and not made"),
     ("jose/src/system.rt", "", "ReadFiles for HostRuntime", "the system"),
     ("jose/src/system.rt", "", "WriteFiles for HostRuntime", "the system"),
     ("jose/src/system.rt", "", "System for HostRuntime", "the system"),
@@ -226,6 +239,7 @@ PLACES = [
     ("octets/src/failing.rt", "FailingOutput::new", "MemoryOutput::new(alloc, room)?", "the room that the caller asks for"),
     ("octets/src/whole.rt", "read_to_end", "'reads: loop { let n = input.read(&mut buf)?; if n == 0 { return Ok(octets); } octets.extend_from_slice(&buf[..n])?; }",
      "all that an input gives"),
+    ("tools/src/command_words.rt", "words_read", "while let [word, tail @ ..] = rest { word_read(options, at, word.as_bytes(), &mut walk)?; at += 1; rest = tail; }", "one word after another"),
     ("objects/src/shared.rt", "SharedOctets::new", "octets: Rc::new(alloc, octets)?,", "one for each parameter of a header"),
     ("objects/src/shared.rt", "SharedText::new", "text: Rc::new(alloc, String::from_str(alloc, text)?)?,", "one for each name of a header"),
 
@@ -244,7 +258,6 @@ PLACES = [
      "if !same_octets(&expected[..len], tag) { return None; } cbc_open(&B::under(key), &array(iv), buf) }", "the tag of AES-CBC with HMAC"),
     ("tokens/src/verify/heads.rt", "is_one_of", "{ signatures.iter().any(|signature| same_octets(mac.octets(), signature.signature()) "
      "&& is_alike(head, signature)) }", "the signature"),
-    ("tokens/src/verify/detached.rt", "are_signed", "if signed != all { return signed; }", "whether a key signed, and whether each has to"),
     ("ciphers/src/key_wrap.rt", "is_initial", "{ same_octets(a, &INITIAL_VALUE) }", "the constant that AES key wrap puts before the key"),
     ("modes/src/cbc_opening.rt", "padding_of", "if last[i] != value { return None; }", "an octet of the padding; `ciphers` has compared the tag before"),
     ("tokens/src/decrypt/tried.rt", "open_alike", "fn open_alike(one: &Recipient, other: &Recipient) -> bool { if one.encrypted_key().len() > MOST_ENCRYPTED_KEY { return false; } if "
@@ -393,7 +406,7 @@ def advice_at(part, at):
         return "world"
     if word[0].isdigit() and not re.match("0(_?[iu]|$)", word) and part.function and status_of(tokens) in STATUSES and crate in ("jose", "lakhdzeva"):
         return "status"
-    if word == "mod" and before == "pub" and after not in ("laws", "line_laws"):
+    if word == "mod" and before == "pub" and after != "laws" and (crate, after) != ("tools", "line_laws"):
         return "public"
     if word == "same_octets" or word in EQUALITIES and crate in COMPARING and not is_of_numbers(tokens, at):
         return "equality"

@@ -5,7 +5,7 @@ TOP = pathlib.Path(__file__).resolve().parents[2]
 # The program that `make build` made, or another build in its place.
 PROGRAM = pathlib.Path(os.environ.get("JOSE_PROGRAM") or TOP / "crates/command/out/command")
 # The program of the proved tools that it made, and the names of these tools.
-TOOLBOX, BUILT_TOOLS = TOP / "crates/toolbox/out/toolbox", ("jose-set", "jose-verify-all")
+TOOLBOX, BUILT_TOOLS = TOP / "crates/toolbox/out/toolbox", ("jose-look", "jose-set", "jose-verify-all")
 # The folder of the library for C that it made.
 LIBRARY = TOP / "crates/lakhdzeva/out/built"
 # The stream to which the lines are written.

@@ -1,5 +1,6 @@
-use crate::{Form, Hash, Refusal, Signers};
-use std::fmt;
+use crate::{FileError, Form, Hash, Refusal, Signers};
+use std::path::Path;
+use std::{fmt, fs};
 
 /// One key or a set of keys, which was checked when it was read. Each call reads its text again.
 ///
@@ -81,6 +82,20 @@ impl Keys {
             text: text.to_vec(),
             uses,
             thumbprints: lines.split('\n').map(str::to_string).collect(),
+        })
+    }
+
+    /// Reads the JSON text of a key or of a set from a file. The text of an error names the file, such as `service.jwk: 7 Json`, and so does that
+    /// of a file that cannot be read.
+    pub fn from_file(path: impl AsRef<Path>) -> Result<Keys, FileError> {
+        let path = path.as_ref();
+        let text = fs::read(path).map_err(|cause| FileError::Unreadable {
+            file: path.to_path_buf(),
+            cause,
+        })?;
+        Keys::new(&text).map_err(|refusal| FileError::Refused {
+            file: path.to_path_buf(),
+            refusal,
         })
     }
 

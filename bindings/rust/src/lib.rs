@@ -48,9 +48,11 @@
 
 #[allow(unsafe_code)]
 mod calls;
+mod file_error;
 mod keys;
 mod refusal;
 
+pub use crate::file_error::FileError;
 pub use crate::keys::{KeyUses, Keys};
 pub use crate::refusal::Refusal;
 

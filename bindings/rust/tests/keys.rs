@@ -3,7 +3,9 @@
 mod common;
 
 use common::*;
-use lakhdzeva::{Form, Hash, Keys, Refusal};
+use lakhdzeva::{FileError, Form, Hash, Keys, Refusal};
+use std::path::{Path, PathBuf};
+use std::{env, fs, process};
 
 const HS256_KEY: &str =
     r#"{"kty":"oct","alg":"HS256","k":"AAECAwQFBgcICQoLDA0ODxAREhMUFRYXGBkaGxwdHh8"}"#;
@@ -44,6 +46,48 @@ fn broken_keys_are_refused() {
     ] {
         assert_eq!(Keys::new(text.as_bytes()).unwrap_err(), refusal, "{text}");
     }
+}
+
+/// A file of this name with this text, in a folder of this test run.
+fn file_with(name: &str, text: &str) -> PathBuf {
+    let folder = env::temp_dir().join(format!("lakhdzeva-keys-{}", process::id()));
+    fs::create_dir_all(&folder).unwrap();
+    let path = folder.join(name);
+    fs::write(&path, text).unwrap();
+    path
+}
+
+#[test]
+fn keys_of_a_file() {
+    let path = file_with("service.jwk", HS256_KEY);
+    let keys = Keys::from_file(&path).unwrap();
+    assert_eq!(keys.text(), HS256_KEY.as_bytes());
+    assert_eq!(keys.verify(SIGNED_BY_OTHER).unwrap(), b"hello");
+    assert_eq!(Keys::from_file(path.to_str().unwrap()).unwrap().len(), 1);
+    for (text, refusal) in [
+        ("", Refusal::Json),
+        (&HS256_KEY[..60], Refusal::Json),
+        (r#"{"kty":"RSA","n":"AQAB","e":"AQAB"}"#, Refusal::Key),
+        (&copies(HS256_KEY, 65), Refusal::Limit),
+    ] {
+        let path = file_with("broken.jwk", text);
+        let error = Keys::from_file(&path).unwrap_err();
+        assert_eq!(error.refusal(), Some(refusal), "{text}");
+        assert_eq!(error.file(), path);
+        assert_eq!(error.to_string(), format!("{}: {refusal}", path.display()));
+    }
+    fs::remove_dir_all(path.parent().unwrap()).unwrap();
+}
+
+#[test]
+fn a_file_that_cannot_be_read_is_named() {
+    let missing = Path::new("/nowhere/service.jwk");
+    let error = Keys::from_file(missing).unwrap_err();
+    assert_eq!((error.file(), error.refusal()), (missing, None));
+    assert!(error.to_string().starts_with("/nowhere/service.jwk: "));
+    // A folder can be opened, and not read.
+    let folder = Keys::from_file(env::temp_dir()).unwrap_err();
+    assert!(matches!(folder, FileError::Unreadable { .. }));
 }
 
 #[test]

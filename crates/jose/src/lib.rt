@@ -35,7 +35,7 @@ use std::process::ExitCode;
 pub use system::{ReadFiles, System, WriteFiles};
 pub use words::invocation::{Invocation, Setting};
 pub use words::parse;
-pub use words::table::Command;
+pub use words::table::{Command, CommandRow, Kind, OptionRow, Role, command_row};
 
 /// Folders, which can be opened but neither read nor written. If the root may not be opened, another folder mostly may.
 const FOLDERS: &[&str] = &["/", ".", "/dev", "/proc", "/etc", "/tmp"];

@@ -5,6 +5,8 @@ pub mod Views
 pub mod SigningInputs
 -- signatures that are compared in pieces
 pub mod VerifyingInputs
+-- signers that are counted
+pub mod Deciding
 -- the signatures for which HMACs are made
 pub mod Heads
 -- contents that are written in the places of a text

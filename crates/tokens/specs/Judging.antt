@@ -1,5 +1,5 @@
 -- What a key may do by some algorithm, whatever it is used for later (RFC 7517 sections 4.2 to 4.4).
-use Rattle.std.specs.Prelude.{◌≡◌, ℕ, ◌&&◌, Bool, true, List, Result, Ok}
+use Rattle.std.specs.Prelude.{◌≡◌, ℕ, ◌&&◌, Bool, true, List, Ok}
 use Rattle.std.specs.List.{list_any}
 use Rattle.ciphers.specs.Algorithms.{management_algs, encryption_algs}
 use Rattle.keys.specs.declared.algorithm.Algorithm.TheVariants.{Signature as SignedWith}

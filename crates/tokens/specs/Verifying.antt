@@ -1,6 +1,6 @@
 -- Verifying with the keys of a set (RFC 7515 section 5.2).
-use Rattle.std.specs.Prelude.{◌≡◌, ℕ, ◌&&◌, Bool, true, false, List, [], ◌∷◌, ◌++◌, is_some, position, if◌then◌else◌, Option, Some, None, Result, Ok}
-use Rattle.std.specs.List.{list_any, list_all}
+use Rattle.std.specs.Prelude.{◌≡◌, ℕ, ◌≤◌, max, nat_le, ◌&&◌, Bool, true, false, List, [], ◌∷◌, ◌++◌, length, is_some, position, if◌then◌else◌, Option, Some, None, Result, Ok}
+use Rattle.std.specs.List.{count_by, list_any, list_all}
 use Rattle.std.specs.Option.{ok_or}
 use Rattle.std.specs.Str.{bytes_eq}
 use Rattle.octets.specs.declared.refusal.Refusal.{Refusal}
@@ -63,6 +63,55 @@ verified_payload all keys o = do
   candidates ← needs (list_any (λ s. list_any (may_verify s) keys) o.signatures) KeyDoesNotFit
   verified ← needs (are_verified all keys o) NotOpened
   Ok o.payload
+
+-- ---- so many signers (docs/SPECIFICATION.md "Tools")
+
+-- the key made one of the signatures
+abbrev pub has_signed : SignedObject → OctetKey → Bool
+has_signed o key = list_any (λ s. verifies o.payload s key) o.signatures
+
+-- how many of the keys made a signature
+abbrev pub signers_count : List OctetKey → SignedObject → ℕ
+signers_count keys o = count_by (has_signed o) keys
+
+-- at least so many of the keys made a signature, and at least one
+abbrev pub have_signed : ℕ → List OctetKey → SignedObject → Bool
+have_signed least keys o = nat_le (max least 1) (signers_count keys o)
+
+-- the payload of an object that has at least so many signers among the keys, or the first refusal
+unfoldable pub verified_by_least : ℕ → List OctetKey → SignedObject → Result (List ℕ) Refusal
+verified_by_least least keys o = do
+  supported ← needs (list_any (λ s. is_some (signature_alg_of s.alg)) o.signatures) Unsupported
+  candidates ← needs (list_any (λ s. list_any (may_verify s) keys) o.signatures) KeyDoesNotFit
+  verified ← needs (have_signed least keys o) NotOpened
+  Ok o.payload
+
+-- what is written of it: the payload, if it is asked for
+unfoldable pub verifying_by_least : ℕ → Bool → List OctetKey → SignedObject → Result (List ℕ) Refusal
+verifying_by_least least wanted keys o = do
+  payload ← verified_by_least least keys o
+  Ok (if wanted then payload else [])
+
+-- how many signers are asked for: each of the keys, or some
+abbrev pub least_of : Bool → List OctetKey → ℕ
+least_of true keys = length keys
+least_of false keys = 1
+
+-- Each key signed exactly if as many keys did as there are, and some key exactly if one did. The refusals are the same.
+abbrev pub LeastIsAll : Type 0
+LeastIsAll = (all : Bool) (keys : List OctetKey) (o : SignedObject) → verified_payload all keys o ≡ verified_by_least (least_of all keys) keys o
+
+-- What is accepted has so many signers. So they are at most as many as the keys, and at least one.
+abbrev pub LeastHaveSigned : Type 0
+LeastHaveSigned = (least : ℕ) (keys : List OctetKey) (o : SignedObject) (payload : List ℕ) → verified_by_least least keys o ≡ Ok payload
+    → (least ≤ signers_count keys o) × (1 ≤ signers_count keys o) × (signers_count keys o ≤ length keys)
+
+-- If more signers are asked for, what is accepted is accepted for fewer too.
+abbrev pub FewerAreAccepted : Type 0
+FewerAreAccepted = (fewer more : ℕ) (keys : List OctetKey) (o : SignedObject) (payload : List ℕ) → fewer ≤ more
+    → verified_by_least more keys o ≡ Ok payload → verified_by_least fewer keys o ≡ Ok payload
+
+-- ---- the first key that signed (docs/SPECIFICATION.md "Verifying" 3 and "Calls for C" 9)
 
 -- the place, from 0, of the first key that made a signature
 abbrev pub first_signer : List OctetKey → SignedObject → Option ℕ

@@ -5,10 +5,11 @@ ghost use Rattle.keys.specs.Limits.{Limits, limits};
 ghost use Rattle.tokens.specs.Decrypting.{FewerIterationsRefuse};
 ghost use Rattle.tokens.specs.Encrypting.{AreSound, EncryptedDecrypts, EncryptingGrows, EncryptingMakesTexts};
 ghost use Rattle.tokens.specs.Judging.{VerifiersMayVerify, DecryptersMayDecrypt};
+ghost use Rattle.tokens.specs.Jws.{LeastIsEachSigner};
 ghost use Rattle.tokens.specs.MoreAlgorithms.{earlier_limits, earlier_management_algs, gcm_management_algs, knowing, OpensAlike};
 ghost use Rattle.tokens.specs.Signers.{AlikeKeysSignAlike};
 ghost use Rattle.tokens.specs.Signing.{SigningGrows, SigningMakesTexts};
-ghost use Rattle.tokens.specs.Verifying.{FirstVerifies, SignedVerifies};
+ghost use Rattle.tokens.specs.Verifying.{FewerAreAccepted, FirstVerifies, LeastHaveSigned, LeastIsAll, SignedVerifies};
 
 use ciphers::laws::{
     delivers_exactly, opens_exactly, what_delivers_is_octets, what_is_opened_is_octets,
@@ -35,6 +36,15 @@ pub fn what_is_signed_verifies()
 /// Some key verifies an object exactly if `jws_verified_by` names a first one, and the refusals are the same.
 pub fn first_verifies()
     ensures { FirstVerifies }
+{}
+
+/// To ask for as many signers as there are keys is to ask for each of them, and to ask for one is to ask for some. What is accepted for more
+/// signers is accepted for fewer, and has so many signers among the keys, which are at least one.
+pub fn signers_are_counted()
+    ensures all { LeastIsAll }
+    ensures each { LeastIsEachSigner }
+    ensures least { LeastHaveSigned }
+    ensures fewer { FewerAreAccepted }
 {}
 
 /// Keys of which none may verify verify nothing, and those of which none may decrypt decrypt nothing. So `key_uses` tells what to expect.

@@ -27,7 +27,10 @@ pub use decrypt::{Work, jwe_decrypt, jwe_decrypt_within, jwe_plaintext};
 pub use encrypt::jwe_encrypt;
 pub use judging::{KeyUses, key_uses};
 pub use sign::jws_sign;
-pub use verify::{jws_verified_by, jws_verify, jws_verify_detached, needs_signers};
+pub use verify::{
+    jws_verified_by, jws_verify, jws_verify_detached, jws_verify_detached_least, jws_verify_least,
+    needs_signers,
+};
 
 #[cfg(test)]
 mod tests;

@@ -1,25 +1,27 @@
 //! Verifying with the keys of a set (RFC 7515 section 5.2).
-ghost use Rattle.std.specs.Prelude.{◌≡◌, ◌≢◌, ℕ, Bool, List, [], true, false, is_some, map, OnOk, OnErr, IfErr};
+ghost use Rattle.std.specs.Prelude.{◌≡◌, ◌≢◌, ℕ, List, [], true, false, is_some, map, OnOk, OnErr, IfErr};
 ghost use Rattle.std.specs.List.{list_any};
 ghost use Rattle.std.specs.Result.{result_unwrap_or};
 ghost use Rattle.octets.specs.Devices.{AppendsPrefixOf, IsFinishedOnce};
 ghost use Rattle.octets.specs.Faults.{TellsFaults};
 ghost use Rattle.octets.specs.Code.Lent.{lent, wrote_on, IfLent, counts_of};
-ghost use Rattle.octets.specs.Outcomes.{AgreesUnlessExternal};
+ghost use Rattle.octets.specs.Outcomes.{AgreesUnlessExternal, is_external};
 ghost use Rattle.octets.specs.Code.Results.{Agrees};
 ghost use Rattle.keys.specs.Algorithms.{signature_alg_of};
 ghost use Rattle.keys.specs.Code.Views.{key_view};
 ghost use Rattle.objects.specs.Code.Views.{held_view, jws_view, signature_view};
-ghost use Rattle.tokens.specs.Verifying.{verifying_by, verified_payload, verified_by, first_signer, are_verified as are_verified_by, may_verify as may_verify_pair, verifies, candidate_alg, is_candidate as is_candidate_key};
+ghost use Rattle.tokens.specs.Verifying.{verifying_by, verifying_by_least, verified_by_least, verified_by, first_signer, have_signed as have_signed_by, least_of as least_of_all, may_verify as may_verify_pair, verifies, candidate_alg, is_candidate as is_candidate_key};
 ghost use Rattle.tokens.specs.Code.Heads.{covers, has_made_alike as made_alike_by, pointed_views};
 
 mod detached;
 mod heads;
 mod signers;
+mod tally;
 
 use crate::signing_input::signature_of;
 use crate::verify::heads::{heads_of, is_one_of};
-pub use detached::jws_verify_detached;
+use crate::verify::tally::Tally;
+pub use detached::{jws_verify_detached, jws_verify_detached_least};
 use keys::{Algorithm, Key, KeySet, Operation, SignatureAlg};
 use objects::{HeldContent, Jws, Signature};
 use octets::{Output, Refusal, needs};
@@ -31,7 +33,6 @@ pub use signers::needs_signers;
 /// Refuses, in this order, with `Unsupported` if no signature's algorithm is supported; `KeyDoesNotFit` if no key may verify by a supported
 /// one and fits; `NotOpened` if no such pair of a signature and a key verifies, or with `all` none of some key; and `Write` if the output
 /// fails.
-#[tactic(auto, unfolding(crate::specs::Verifying::verifying_by))]
 pub fn jws_verify<O: Output>(
     keys: &KeySet,
     jws: &Jws<'_>,
@@ -50,13 +51,51 @@ pub fn jws_verify<O: Output>(
     ensures no_memory { IfErr result (λ refusal. refusal ≢ Refusal.Memory) }
     ensures faults { TellsFaults [] (counts_of O.failures (lent out.entry out.exit)) result }
 {
+    let least = least_of(all, keys);
     match out {
-        None => verified(keys, jws, all),
+        None => verified(keys, jws, least),
+        Some(out) => jws_verify_least(keys, jws, least, Some(out)),
+    }
+}
+
+/// Verifies the object as `jws_verify` does, but at least `least` of the keys must each have made a signature, and at least one, for a rule
+/// such as two of three signers. One key may be in the set twice, and keys that differ may make the same signatures: `needs_signers` refuses
+/// such a set.
+///
+/// Refuses as `jws_verify` does, with `NotOpened` if fewer of the keys made a signature, and so if there are fewer keys.
+#[tactic(auto, unfolding(crate::specs::Verifying::verifying_by_least))]
+pub fn jws_verify_least<O: Output>(
+    keys: &KeySet,
+    jws: &Jws<'_>,
+    least: usize,
+    out: Option<&mut O>,
+) -> Result<(), Refusal>
+    ensures answer { AgreesUnlessExternal (verifying_by_least least (is_some out.entry) keys.now (jws_view jws.now))
+        (wrote_on O.written (lent out.entry out.exit)) result }
+
+    // The output is not touched before the object is accepted.
+    ensures held_back { IfErr result (λ refusal. refusal ≢ Refusal.Write → IfLent (lent out.entry out.exit) (λ old new. new ≡ old)) }
+    ensures beginning { OnErr result (IfLent (lent out.entry out.exit) (λ old new. AppendsPrefixOf
+        (result_unwrap_or (verifying_by_least least (is_some out.entry) keys.now (jws_view jws.now)) []) (O.written old) (O.written new))) }
+    ensures finished { OnOk result (IfLent (lent out.entry out.exit) (IsFinishedOnce O.is_finished O.endings)) }
+    ensures unfinished { OnErr result (IfLent (lent out.entry out.exit) (λ old new. O.endings new ≡ O.endings old)) }
+    ensures no_memory { IfErr result (λ refusal. refusal ≢ Refusal.Memory) }
+    ensures faults { TellsFaults [] (counts_of O.failures (lent out.entry out.exit)) result }
+{
+    match out {
+        None => verified(keys, jws, least),
         Some(out) => {
-            verified(keys, jws, all)?;
+            verified(keys, jws, least)?;
             jws.write_payload(out)
         }
     }
+}
+
+/// How many signers are asked for: with `all` each key, and otherwise some.
+fn least_of(all: bool, keys: &KeySet) -> usize
+    ensures { result ≡ least_of_all all keys.now }
+{
+    if all { keys.keys().len() } else { 1 }
 }
 
 /// The place in the set, from 0, of the first key that verifies the object, for a caller whose keys belong to different parties. It refuses as
@@ -84,21 +123,22 @@ fn first_signer(keys: &[Key], jws: &Jws<'_>) -> Option<usize>
     keys.iter().position(|key| has_signed(key, heads, signatures, jws.held_payload()))
 }
 
-/// The object verifies with some key, or with all. Refuses as `jws_verify` does.
-fn verified(keys: &KeySet, jws: &Jws<'_>, all: bool) -> Result<(), Refusal>
-    ensures exact { Agrees (λ done. (jws_view jws.now).payload) result (verified_payload all keys.now (jws_view jws.now)) }
+/// The object verifies with at least so many of the keys. Refuses as `jws_verify_least` does.
+fn verified(keys: &KeySet, jws: &Jws<'_>, least: usize) -> Result<(), Refusal>
+    ensures exact { Agrees (λ done. (jws_view jws.now).payload) result (verified_by_least least keys.now (jws_view jws.now)) }
 {
     let keys = keys.keys();
-    verdict(keys, jws.signatures(), are_verified(all, keys, jws))
+    verdict(keys, jws.signatures(), have_signed(least, keys, jws))
 }
 
-/// The result of verifying, by whether the signatures are right. Refuses as `jws_verify` does.
-#[tactic(auto, unfolding(crate::specs::Verifying::verified_payload), using(crate::proofs::Elements::views))]
+/// The result of verifying, by whether enough of the keys signed. Refuses as `jws_verify_least` does.
+#[tactic(auto, unfolding(crate::specs::Verifying::verified_by_least), using(crate::proofs::Elements::views))]
 fn verdict(keys: &[Key], signatures: &[Signature], are_right: bool) -> Result<(), Refusal>
-    ensures { (all : Bool) (payload : List ℕ) → are_right
-        ≡ are_verified_by all (map key_view keys.now) (record { payload = payload; signatures = map signature_view signatures.now })
-        → Agrees (λ done. payload) result (verified_payload all (map key_view keys.now)
+    ensures agrees { (least : ℕ) (payload : List ℕ) → are_right
+        ≡ have_signed_by least (map key_view keys.now) (record { payload = payload; signatures = map signature_view signatures.now })
+        → Agrees (λ done. payload) result (verified_by_least least (map key_view keys.now)
         (record { payload = payload; signatures = map signature_view signatures.now })) }
+    ensures inside { IfErr result (λ refusal. is_external refusal ≡ false) }
 {
     needs(has_supported(signatures), Refusal::Unsupported)?;
     needs(has_candidate(signatures, keys), Refusal::KeyDoesNotFit)?;
@@ -130,18 +170,21 @@ fn is_for_some(signature: &Signature, keys: &[Key]) -> bool
     keys.iter().any(|key| may_verify(signature, key))
 }
 
-/// Whether some key made a signature, or with `all` each key made one.
-fn are_verified(all: bool, keys: &[Key], jws: &Jws<'_>) -> bool
-    ensures { result ≡ are_verified_by all (map key_view keys.now) (jws_view jws.now) }
+/// Whether at least so many of the keys, and at least one, made a signature. No key is asked once this is known.
+fn have_signed(least: usize, keys: &[Key], jws: &Jws<'_>) -> bool
+    ensures { result ≡ have_signed_by least (map key_view keys.now) (jws_view jws.now) }
 {
     let signatures = jws.signatures();
     let heads = heads_of(signatures);
     let heads = heads.list();
-    if all {
-        keys.iter().all(|key| has_signed(key, heads, signatures, jws.held_payload()))
-    } else {
-        keys.iter().any(|key| has_signed(key, heads, signatures, jws.held_payload()))
+    let mut tally = Tally::new(least, keys.len());
+    for key in keys {
+        let signed = has_signed(key, heads, signatures, jws.held_payload());
+        if let Some(enough) = tally.count(signed) {
+            return enough;
+        }
     }
+    false
 }
 
 /// Whether the key made one of the signatures, if the heads cover them.

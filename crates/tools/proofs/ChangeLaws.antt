@@ -1,27 +1,27 @@
 -- What the calls of a run say of its files.
 use Rattle.std.proofs.lemmas.List.Folds.{list_any-append}
 use Rattle.std.specs.List.{list_any}
-use Rattle.tools.specs.declared.set_cause.Why.{Why}
-use Rattle.std.proofs.Common.{◌≡◌, ◌∙◌, ℕ, ◌+◌, suc, if◌then◌else◌, Bool, true, List, [], ◌∷◌, ◌++◌, length, Some, Result, Ok, Err, refl, sym, ap, subst, append_assoc, ◌≢◌, false, Option, None, ◌⊎◌, inl, inr, ◌||◌}
+use Rattle.tools.specs.declared.tool_cause.Why.{Why}
+use Rattle.std.proofs.Common.{◌≡◌, ◌∙◌, ℕ, ◌+◌, suc, if◌then◌else◌, Bool, true, List, [], ◌∷◌, ◌++◌, length, Some, Result, Ok, Err, refl, sym, ap, subst, append_assoc, ◌≢◌, false, Option, None, ◌⊎◌, inl, inr}
 use Rattle.std.proofs.lemmas.Bool.{or_parts}
 use Rattle.std.proofs.lemmas.List.{append-nil}
 use Rattle.tools.specs.declared.put_files.Kind.{Kind}
 use Rattle.tools.specs.declared.put_files.Kind.TheVariants as kind
-use Rattle.tools.specs.declared.set_cause.Place.{Place}
-use Rattle.tools.specs.declared.set_cause.Place.TheVariants.{Beside, Target, File}
-use Rattle.tools.specs.declared.set_cause.SetCause.{SetCause}
-use Rattle.tools.specs.declared.set_cause.SetCause.TheVariants.{At, Output}
-use Rattle.tools.specs.declared.set_cause.Why.TheVariants as why
+use Rattle.tools.specs.declared.tool_cause.Place.{Place}
+use Rattle.tools.specs.declared.tool_cause.Place.TheVariants.{Beside, Target, File}
+use Rattle.tools.specs.declared.tool_cause.ToolCause.{ToolCause}
+use Rattle.tools.specs.declared.tool_cause.ToolCause.TheVariants.{At, Output}
+use Rattle.tools.specs.declared.tool_cause.Why.TheVariants as why
 use Rattle.tools.specs.Calls.{Call, asked, tried, read, created, wrote, owned, synced, put, folder_synced, written_out, removed}
 use Rattle.tools.specs.ChangeLaws.{AddsAreWhole, RemovalsAreWhole, locking, reads, rewriting, Has, RefusalsDeleteWhatIsNew, RefusalsReplaceNothing, is_put}
-use Rattle.tools.specs.Changes.{Deletes, Editing, adding, removing, Edits, Examines, Gathers, Judges, ReadsEdited, Refills, Rewrites, Undoes, beside, by_kind, Creates, EditsBeside, EndsAt, Fills, JoinsInto, JoinsOut, Names, Places, PutsClaimed, Reads, ReadsAdded, ReadsJoined, Writes, Asked, joins, adds, removes, IsFile, Changes}
+use Rattle.tools.specs.Changes.{Deletes, Editing, adding, removing, Edits, Examines, Gathers, Judges, ReadsEdited, Refills, Rewrites, Undoes, beside, by_kind, Creates, EndsAt, Fills, Places, PutsClaimed, Reads, ReadsJoined, joins, adds, removes}
 use Rattle.tools.specs.SetHeadline.{joined_from}
 use Rattle.tools.specs.Sets.{JoinedKeys, no_keys, set_keys, set_text, text_without, with_text}
 use Rattle.tools.specs.Steps.{Step, Computes, Then, stops, goes_on, Calls}
 
 -- ---- one step after another
 
-pub record Went {A B : Type 0} (first : Step A) (next : A → Step B) (calls : List Call) (result : Result B SetCause) : Type 0 where
+pub record Went {A B : Type 0} (first : Step A) (next : A → Step B) (calls : List Call) (result : Result B ToolCause) : Type 0 where
   pub x : A
   pub front : List Call
   pub rest : List Call
@@ -33,7 +33,7 @@ then_ok : {A B : Type 0} {first : Step A} {next : A → Step B} {calls : List Ca
 then_ok (stops cause f e) = cc e
 then_ok (goes_on x front rest is f n) = record { x = x; front = front; rest = rest; calls_are = is; begins = f; ends = n }
 
-computed : {A : Type 0} {answer : Result A SetCause} {calls : List Call} {x : A} → Computes answer calls (Ok x) → (calls ≡ []) × (answer ≡ Ok x)
+computed : {A : Type 0} {answer : Result A ToolCause} {calls : List Call} {x : A} → Computes answer calls (Ok x) → (calls ≡ []) × (answer ≡ Ok x)
 computed c = (c.none, c.gives)
 
 both_are : {a b front rest calls : List Call} → calls ≡ front ++ rest → front ≡ a → rest ≡ b → calls ≡ a ++ b
@@ -41,7 +41,7 @@ both_are is ha hb = cc
 
 -- ---- reading
 
-judged : {A : Type 0} (path : List ℕ) {place : Place} {judge : List ℕ → Result A SetCause} {calls : List Call} {x : A} → Judges path place judge calls (Ok x)
+judged : {A : Type 0} (path : List ℕ) {place : Place} {judge : List ℕ → Result A ToolCause} {calls : List Call} {x : A} → Judges path place judge calls (Ok x)
     → (text : List ℕ) × ((judge text ≡ Ok x) × (calls ≡ read path (Some text) ∷ []))
 judged path j = let w = then_ok j in (w.x, (w.ends.gives, w.calls_are ∙ ap (λ cs. cs ++ w.rest) w.begins ∙ ap (λ cs. read path (Some w.x) ∷ cs) w.ends.none))
 
@@ -86,11 +86,11 @@ examined set calls e =
 kept : (path : List ℕ) (place : Place) (step : Step (Unit {0})) (calls : List Call) → Undoes path place step calls (Ok tt) → step calls (Ok tt)
 kept path place step calls u = by_outcome u.outcome u.takes u.deletes
   where
-    by_outcome : (outcome : Result (Unit {0}) SetCause) → step u.front outcome → Deletes path place outcome u.rest (Ok tt) → step calls (Ok tt)
+    by_outcome : (outcome : Result (Unit {0}) ToolCause) → step u.front outcome → Deletes path place outcome u.rest (Ok tt) → step calls (Ok tt)
     by_outcome (Ok done) t d = subst (λ cs. step cs (Ok tt)) (sym (u.calls_are ∙ ap (λ cs. u.front ++ cs) d.0 ∙ append-nil u.front)) t
     by_outcome (Err cause) t d = never d.0 d.1.1
       where
-        never : (did : Bool) → (let r : Result (Unit {0}) SetCause = Ok tt in r) ≡ Err (if did then cause else At place why.NotDeleted) → step calls (Ok tt)
+        never : (did : Bool) → (let r : Result (Unit {0}) ToolCause = Ok tt in r) ≡ Err (if did then cause else At place why.NotDeleted) → step calls (Ok tt)
         never did h = cc h
 
 pub record IsEdited (set : List ℕ) (edit : Editing) (calls : List Call) : Type 0 where
@@ -115,7 +115,7 @@ edited set edit calls e =
       calls_are = all_are set b.x r.x r.front name a.calls_are (examined set a.front a.begins) b.calls_are b.begins.none d.calls_are d.begins f.calls_are r.calls_are filled f.ends;
     }
   where
-    name_is : {x : List ℕ} → (let r : Result (List ℕ) SetCause = Ok (beside set) in r) ≡ Ok x → x ≡ beside set
+    name_is : {x : List ℕ} → (let r : Result (List ℕ) ToolCause = Ok (beside set) in r) ≡ Ok x → x ≡ beside set
     name_is h = cc h
 
     all_are : (set path text : List ℕ) (r1 : List Call) {calls a1 a2 b1 b2 d1 d2 f1 f2 r2 : List Call} → path ≡ beside set → calls ≡ a1 ++ a2 → a1 ≡ asked set kind.File ∷ tried set true ∷ []
@@ -172,74 +172,74 @@ module _ (test : Call → Bool) (none : Ignores test) where
   nothing : (calls : List Call) → calls ≡ [] → Without calls
   nothing calls is = ap (list_any test) is
 
-  then_without : {A B : Type 0} {first : Step A} {next : A → Step B} {calls : List Call} {result : Result B SetCause} → Then first next calls result
-      → ((cs : List Call) (r : Result A SetCause) → first cs r → Without cs) → ((x : A) (cs : List Call) → next x cs result → Without cs) → Without calls
+  then_without : {A B : Type 0} {first : Step A} {next : A → Step B} {calls : List Call} {result : Result B ToolCause} → Then first next calls result
+      → ((cs : List Call) (r : Result A ToolCause) → first cs r → Without cs) → ((x : A) (cs : List Call) → next x cs result → Without cs) → Without calls
   then_without (stops cause f e) hf hn = hf _ _ f
   then_without (goes_on x front rest is f n) hf hn = ap (list_any test) is ∙ without_both front rest (hf front (Ok x) f) (hn x rest n)
 
-  call_without : (call : Bool → Call) (cause : SetCause) → ((did : Bool) → test (call did) ≡ false) → (cs : List Call) (r : Result (Unit {0}) SetCause)
+  call_without : (call : Bool → Call) (cause : ToolCause) → ((did : Bool) → test (call did) ≡ false) → (cs : List Call) (r : Result (Unit {0}) ToolCause)
       → Calls call cause cs r → Without cs
   call_without call cause h cs (Ok done) is = only cs (call true) is (h true)
   call_without call cause h cs (Err e) is = only cs (call false) is.0 (h false)
 
-  computes_without : {A : Type 0} (answer : Result A SetCause) (cs : List Call) (r : Result A SetCause) → Computes answer cs r → Without cs
+  computes_without : {A : Type 0} (answer : Result A ToolCause) (cs : List Call) (r : Result A ToolCause) → Computes answer cs r → Without cs
   computes_without answer cs r c = nothing cs c.none
 
-  reads_without : (path : List ℕ) (place : Place) (cs : List Call) (r : Result (List ℕ) SetCause) → Reads path place cs r → Without cs
+  reads_without : (path : List ℕ) (place : Place) (cs : List Call) (r : Result (List ℕ) ToolCause) → Reads path place cs r → Without cs
   reads_without path place cs (Ok text) is = only cs (read path (Some text)) is (none.takes path (Some text))
   reads_without path place cs (Err e) is = only cs (read path None) is.1.0 (none.takes path None)
 
-  judges_without : {A : Type 0} (path : List ℕ) (place : Place) (judge : List ℕ → Result A SetCause) (cs : List Call) (r : Result A SetCause)
+  judges_without : {A : Type 0} (path : List ℕ) (place : Place) (judge : List ℕ → Result A ToolCause) (cs : List Call) (r : Result A ToolCause)
       → Judges path place judge cs r → Without cs
   judges_without path place judge cs r j = then_without j (reads_without path place) (λ text cs. computes_without (judge text) cs r)
 
-  gathers_without : (files : List (List ℕ)) (at : ℕ) (joined : JoinedKeys) (cs : List Call) (r : Result JoinedKeys SetCause)
+  gathers_without : (files : List (List ℕ)) (at : ℕ) (joined : JoinedKeys) (cs : List Call) (r : Result JoinedKeys ToolCause)
       → Gathers at joined files cs r → Without cs
   gathers_without [] at joined cs r g = nothing cs g.none
   gathers_without (file ∷ files) at joined cs r g =
       then_without g (judges_without file (File at) (with_text (File at) joined)) (λ more cs. gathers_without files (at + 1) more cs r)
 
-  joined_without : (files : List (List ℕ)) (cs : List Call) (r : Result (List ℕ) SetCause) → ReadsJoined files cs r → Without cs
+  joined_without : (files : List (List ℕ)) (cs : List Call) (r : Result (List ℕ) ToolCause) → ReadsJoined files cs r → Without cs
   joined_without files cs r j = then_without j (gathers_without files 0 no_keys) (λ joined cs. computes_without (Ok (set_text joined.objects)) cs r)
 
-  edited_without : (set : List ℕ) (edit : Editing) (cs : List Call) (r : Result (List ℕ) SetCause) → ReadsEdited set edit cs r → Without cs
+  edited_without : (set : List ℕ) (edit : Editing) (cs : List Call) (r : Result (List ℕ) ToolCause) → ReadsEdited set edit cs r → Without cs
   edited_without set (adding files) cs r j = then_without j (judges_without set Target set_keys)
       (λ first cs k. then_without k (gathers_without files 0 first) (λ joined cs. computes_without (Ok (set_text joined.objects)) cs r))
   edited_without set (removing names) cs r j = judges_without set Target (text_without names) cs r j
 
-  examines_without : (set : List ℕ) (cs : List Call) (r : Result (Unit {0}) SetCause) → Examines set cs r → Without cs
+  examines_without : (set : List ℕ) (cs : List Call) (r : Result (Unit {0}) ToolCause) → Examines set cs r → Without cs
   examines_without set cs r e = then_without e (λ cs r f. only cs (asked set f.kind) f.call (none.asks set f.kind))
       (λ done cs. call_without (tried set) (At Target why.NotWritable) (none.tries set) cs r)
 
-  places_without : (path target : List ℕ) (cs : List Call) (cause : SetCause) → Places path target cs (Err cause) → Without cs
+  places_without : (path target : List ℕ) (cs : List Call) (cause : ToolCause) → Places path target cs (Err cause) → Without cs
   places_without path target cs cause p = then_without p (call_without (synced path) (At Beside why.NotOnDisk) (none.syncs path))
       (λ done cs q. only cs (put path target false) q.0 (none.fails path target))
 
-  fills_without : (path target text : List ℕ) (cs : List Call) (cause : SetCause) → Fills path target text cs (Err cause) → Without cs
+  fills_without : (path target text : List ℕ) (cs : List Call) (cause : ToolCause) → Fills path target text cs (Err cause) → Without cs
   fills_without path target text cs cause f = then_without f (call_without (wrote path text) (At Beside why.NotWritten) (none.writes path text))
       (λ done cs. places_without path target cs cause)
 
-  refills_without : (path target text : List ℕ) (cs : List Call) (cause : SetCause) → Refills path target text cs (Err cause) → Without cs
+  refills_without : (path target text : List ℕ) (cs : List Call) (cause : ToolCause) → Refills path target text cs (Err cause) → Without cs
   refills_without path target text cs cause f = then_without f (call_without (wrote path text) (At Beside why.NotWritten) (none.writes path text))
       (λ done cs g. then_without g (call_without (owned path target) (At Beside why.NotWritten) (none.owns path target))
       (λ done cs. places_without path target cs cause))
 
-  rewrites_without : (path set : List ℕ) (edit : Editing) (cs : List Call) (cause : SetCause) → Rewrites path set edit cs (Err cause) → Without cs
+  rewrites_without : (path set : List ℕ) (edit : Editing) (cs : List Call) (cause : ToolCause) → Rewrites path set edit cs (Err cause) → Without cs
   rewrites_without path set edit cs cause w = then_without w (edited_without set edit) (λ text cs. refills_without path set text cs cause)
 
 -- what was undone had a cause, and its file was deleted
 pub record IsUndone (path : List ℕ) (step : Step (Unit {0})) (calls : List Call) : Type 0 where
-  pub first : SetCause
+  pub first : ToolCause
   pub front : List Call
   pub did : Bool
   pub takes : step front (Err first)
   pub calls_are : calls ≡ front ++ removed path did ∷ []
 
-was_undone : (path : List ℕ) (place : Place) (step : Step (Unit {0})) (calls : List Call) (cause : SetCause) → Undoes path place step calls (Err cause)
+was_undone : (path : List ℕ) (place : Place) (step : Step (Unit {0})) (calls : List Call) (cause : ToolCause) → Undoes path place step calls (Err cause)
     → IsUndone path step calls
 was_undone path place step calls cause u = by_outcome u.outcome u.takes u.deletes
   where
-    by_outcome : (outcome : Result (Unit {0}) SetCause) → step u.front outcome → Deletes path place outcome u.rest (Err cause) → IsUndone path step calls
+    by_outcome : (outcome : Result (Unit {0}) ToolCause) → step u.front outcome → Deletes path place outcome u.rest (Err cause) → IsUndone path step calls
     by_outcome (Ok done) t d = cc d.1
     by_outcome (Err first) t d = record { first = first; front = u.front; did = d.0; takes = t; calls_are = u.calls_are ∙ ap (λ cs. u.front ++ cs) d.1.0 }
 
@@ -261,24 +261,24 @@ puts_are_none = record {
 abbrev NonePut : List Call → Type 0
 NonePut calls = list_any is_put calls ≡ false
 
-creates_none_put : (path : List ℕ) (place : Place) (taken : Why) (cs : List Call) (r : Result (Unit {0}) SetCause) → Creates path place taken cs r → NonePut cs
+creates_none_put : (path : List ℕ) (place : Place) (taken : Why) (cs : List Call) (r : Result (Unit {0}) ToolCause) → Creates path place taken cs r → NonePut cs
 creates_none_put path place taken cs (Ok done) is = ap (list_any is_put) is
 creates_none_put path place taken cs (Err e) is = ap (list_any is_put) is.1.0
 
-undone_none_put : (path : List ℕ) (place : Place) (step : Step (Unit {0})) (cs : List Call) (cause : SetCause)
-    → ((front : List Call) (first : SetCause) → step front (Err first) → NonePut front) → Undoes path place step cs (Err cause) → NonePut cs
+undone_none_put : (path : List ℕ) (place : Place) (step : Step (Unit {0})) (cs : List Call) (cause : ToolCause)
+    → ((front : List Call) (first : ToolCause) → step front (Err first) → NonePut front) → Undoes path place step cs (Err cause) → NonePut cs
 undone_none_put path place step cs cause h u =
     let w = was_undone path place step cs cause u in
     ap (list_any is_put) w.calls_are ∙ without_both is_put puts_are_none w.front (removed path w.did ∷ []) (h w.front w.first w.takes) refl
 
 -- A step that undoes, and then the folder: if it has another cause than that of the folder, nothing was put.
-ends_none_put : (path target : List ℕ) (place : Place) (step : Step (Unit {0})) (cs : List Call) (cause : SetCause) → cause ≢ At Target why.FolderNotOnDisk
-    → ((front : List Call) (first : SetCause) → step front (Err first) → NonePut front)
+ends_none_put : (path target : List ℕ) (place : Place) (step : Step (Unit {0})) (cs : List Call) (cause : ToolCause) → cause ≢ At Target why.FolderNotOnDisk
+    → ((front : List Call) (first : ToolCause) → step front (Err first) → NonePut front)
     → Then (Undoes path place step) (λ done. EndsAt target) cs (Err cause) → NonePut cs
 ends_none_put path target place step cs cause not h (stops first u e) = let same : cause ≡ first = cc e in undone_none_put path place step cs first h u
 ends_none_put path target place step cs cause not h (goes_on x front rest is f n) = absurd (not n.1)
 
-edits_none_put : (set : List ℕ) (edit : Editing) (cs : List Call) (cause : SetCause) → cause ≢ At Target why.FolderNotOnDisk
+edits_none_put : (set : List ℕ) (edit : Editing) (cs : List Call) (cause : ToolCause) → cause ≢ At Target why.FolderNotOnDisk
     → Edits set edit cs (Err cause) → NonePut cs
 edits_none_put set edit cs cause not e =
     then_without is_put puts_are_none e (examines_without is_put puts_are_none set) (λ done cs k.
@@ -286,7 +286,7 @@ edits_none_put set edit cs cause not e =
     then_without is_put puts_are_none m (creates_none_put path Beside why.Claimed)
     (λ done cs. ends_none_put path set Beside (Rewrites path set edit) cs cause not (rewrites_without is_put puts_are_none path set edit))))
 
-claimed_none_put : (path target text : List ℕ) (cs : List Call) (cause : SetCause) → PutsClaimed path target text cs (Err cause) → NonePut cs
+claimed_none_put : (path target text : List ℕ) (cs : List Call) (cause : ToolCause) → PutsClaimed path target text cs (Err cause) → NonePut cs
 claimed_none_put path target text cs cause p = then_without is_put puts_are_none p (creates_none_put path Beside why.Claimed)
     (λ done cs. undone_none_put path Beside (Fills path target text) cs cause (fills_without is_put puts_are_none path target text))
 
@@ -361,15 +361,15 @@ behind_none calls front rest is none later path h = by_part (has_split (created 
     by_part (inl k) = absurd (none_has front path none k)
     by_part (inr k) = let d = later path k in (d.0, subst (Has (removed path d.0)) (sym is) (has_right (removed path d.0) front rest d.1))
 
-then_deletes : {A B : Type 0} {first : Step A} {next : A → Step B} {calls : List Call} {result : Result B SetCause} → Then first next calls result
-    → ((cs : List Call) (r : Result A SetCause) → first cs r → NoneCreated cs) → ((x : A) (cs : List Call) → next x cs result → DeletesNew cs) → DeletesNew calls
+then_deletes : {A B : Type 0} {first : Step A} {next : A → Step B} {calls : List Call} {result : Result B ToolCause} → Then first next calls result
+    → ((cs : List Call) (r : Result A ToolCause) → first cs r → NoneCreated cs) → ((x : A) (cs : List Call) → next x cs result → DeletesNew cs) → DeletesNew calls
 then_deletes {calls} (stops cause f e) hf hn = none_deletes calls (hf _ _ f)
 then_deletes {calls} (goes_on x front rest is f n) hf hn = behind_none calls front rest is (hf front (Ok x) f) (hn x rest n)
 
 -- A file is created, and what follows is undone with it.
-claim_deletes : {next : Unit {0} → Step (Unit {0})} (new : List ℕ) (place : Place) (taken : Why) (step : Step (Unit {0})) (calls : List Call) (cause : SetCause)
+claim_deletes : {next : Unit {0} → Step (Unit {0})} (new : List ℕ) (place : Place) (taken : Why) (step : Step (Unit {0})) (calls : List Call) (cause : ToolCause)
     → ((rest : List Call) → next tt rest (Err cause) → IsUndone new step rest)
-    → ((front : List Call) (first : SetCause) → step front (Err first) → DeletesNew front)
+    → ((front : List Call) (first : ToolCause) → step front (Err first) → DeletesNew front)
     → Then (Creates new place taken) next calls (Err cause) → DeletesNew calls
 claim_deletes new place taken step calls cause undoes h (stops first f e) path k = none_deletes calls (ap (list_any is_created) f.1.0) path k
 claim_deletes new place taken step calls cause undoes h (goes_on x front rest is f n) path k =
@@ -391,12 +391,12 @@ claim_deletes new place taken step calls cause undoes h (goes_on x front rest is
             (d.0, subst (Has (removed path d.0)) (sym all) (inr (has_left (removed path d.0) w.front (removed new w.did ∷ []) d.1)))
         by_part (inr last) = absurd (none_has (removed new w.did ∷ []) path refl last)
 
-ends_undone : (path target : List ℕ) (place : Place) (step : Step (Unit {0})) (cs : List Call) (cause : SetCause) → cause ≢ At Target why.FolderNotOnDisk
+ends_undone : (path target : List ℕ) (place : Place) (step : Step (Unit {0})) (cs : List Call) (cause : ToolCause) → cause ≢ At Target why.FolderNotOnDisk
     → Then (Undoes path place step) (λ done. EndsAt target) cs (Err cause) → IsUndone path step cs
 ends_undone path target place step cs cause not (stops first u e) = was_undone path place step cs first u
 ends_undone path target place step cs cause not (goes_on x front rest is f n) = absurd (not n.1)
 
-edits_delete : (set : List ℕ) (edit : Editing) (cs : List Call) (cause : SetCause) → cause ≢ At Target why.FolderNotOnDisk
+edits_delete : (set : List ℕ) (edit : Editing) (cs : List Call) (cause : ToolCause) → cause ≢ At Target why.FolderNotOnDisk
     → Edits set edit cs (Err cause) → DeletesNew cs
 edits_delete set edit cs cause not e =
     then_deletes e (examines_without is_created creations_are_none set) (λ done cs k.
@@ -404,7 +404,7 @@ edits_delete set edit cs cause not e =
     claim_deletes path Beside why.Claimed (Rewrites path set edit) cs cause (λ rest. ends_undone path set Beside (Rewrites path set edit) rest cause not)
     (λ front first w. none_deletes front (rewrites_without is_created creations_are_none path set edit front first w)) m))
 
-claimed_deletes : (path target text : List ℕ) (cs : List Call) (cause : SetCause) → PutsClaimed path target text cs (Err cause) → DeletesNew cs
+claimed_deletes : (path target text : List ℕ) (cs : List Call) (cause : ToolCause) → PutsClaimed path target text cs (Err cause) → DeletesNew cs
 claimed_deletes path target text cs cause p =
     claim_deletes path Beside why.Claimed (Fills path target text) cs cause (λ rest. was_undone path Beside (Fills path target text) rest cause)
     (λ front first w. none_deletes front (fills_without is_created creations_are_none path target text front first w)) p

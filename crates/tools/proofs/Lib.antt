@@ -11,3 +11,8 @@ pub mod KeyObjects
 pub mod SetLaws
 pub mod ChangeLaws
 pub mod ReportLaws
+pub mod LookLaws
+pub mod LookedKeys
+-- tests of the elements of a list, seen by a view
+pub mod Entries
+pub mod AsAsked

@@ -7,7 +7,7 @@ use Rattle.octets.specs.declared.refusal.Refusal.TheVariants.{Key}
 use Rattle.octets.specs.Outcomes.{◌>>=◌, needs}
 use Rattle.keys.specs.Json.{is_object, KeepFloatsOut}
 use Rattle.keys.specs.KeySets.{are_objects, key_objects, objects_at}
-use Rattle.tools.specs.declared.set_cause.Place.{Place}
+use Rattle.tools.specs.declared.tool_cause.Place.{Place}
 use Rattle.tools.specs.Sets.{judged}
 
 -- If a value has no float, its key objects have none.

@@ -1,38 +1,40 @@
 -- The printable form of a text.
-use Rattle.std.proofs.Common.{◌≡◌, ◌<◌, ◌≤◌, ◌/◌, ◌%◌, ◌&&◌, ◌∙◌, ℕ, zero, suc, get_or, codes, Bool, true, false, nat_le, nat_lt, if◌then◌else◌, List, [], ◌∷◌, ◌++◌, refl, arith}
+use Rattle.std.proofs.Common.{◌≡◌, ◌<◌, ◌/◌, ◌%◌, ◌∙◌, ℕ, codes, get_or, Bool, true, false, if◌then◌else◌, List, [], ◌∷◌, ◌++◌, refl, arith}
 use Rattle.std.proofs.lemmas.Bool.{and_parts}
 use Rattle.std.proofs.lemmas.List.Folds.{list_all-append}
-use Rattle.std.specs.List.{AllByRecursion, list_all}
+use Rattle.std.specs.List.{list_all}
 use Rattle.octets.specs.declared.refusal.Refusal.{Refusal}
 use Rattle.octets.specs.declared.refusal.Refusal.TheVariants as cause
 use Rattle.octets.specs.Refusals.{refusal_text}
-use Rattle.tools.specs.declared.set_cause.Place.{Place}
-use Rattle.tools.specs.declared.set_cause.Place.TheVariants.{Target, Beside, File}
-use Rattle.tools.specs.declared.set_cause.SetCause.{SetCause}
-use Rattle.tools.specs.declared.set_cause.SetCause.TheVariants.{Usage, Memory, InputTwice, InputSet, Output, At}
-use Rattle.tools.specs.declared.set_cause.Why.{Why}
-use Rattle.tools.specs.declared.set_cause.Why.TheVariants as why
-use Rattle.tools.specs.ReportLaws.{AreOctets, HasOctets, HaveOctets, LinesArePrinted, TextsArePrinted, is_shown}
-use Rattle.tools.specs.SetReports.{NamedWords, cause_text, hex_digit, is_printable, name_of, printable, printable_octet, why_text}
+use Rattle.tools.specs.declared.tool_cause.ToolCause.{ToolCause}
+use Rattle.tools.specs.declared.tool_cause.ToolCause.TheVariants.{Usage, Memory, InputTwice, InputSet, Output, NotAllRead, At}
+use Rattle.tools.specs.declared.tool_cause.Why.{Why}
+use Rattle.tools.specs.declared.tool_cause.Why.TheVariants as why
+use Rattle.tools.specs.declared.words.Tool.{Tool}
+use Rattle.tools.specs.declared.words.Tool.TheVariants as tool
+use Rattle.tools.specs.Printing.{hex_digit, is_printable, is_shown, printable, printable_octet, printed}
+use Rattle.tools.specs.ReportLaws.{LinesArePrinted, TextsArePrinted}
+use Rattle.tools.specs.ToolReports.{NamedWords, cause_text, name_of, why_text}
+use Rattle.tools.specs.Words.{tool_name, usage_text}
 
 digit_shown : (n : ℕ) → n < 16 → is_printable (hex_digit n) ≡ true
 digit_shown n small = grind (arith, small)
 
-octet_shown : (octet : ℕ) → octet < 256 → list_all is_printable (printable_octet octet) ≡ true
-octet_shown octet small = by_test (is_printable octet) refl
+octet_shown : (octet : ℕ) → list_all is_printable (printable_octet octet) ≡ true
+octet_shown octet = by_test (is_printable octet) refl
   where
     by_test : (test : Bool) → is_printable octet ≡ test
-        → list_all is_printable (if test then octet ∷ [] else 92 ∷ 120 ∷ hex_digit (octet / 16) ∷ hex_digit (octet % 16) ∷ []) ≡ true
+        → list_all is_printable (if test then octet ∷ [] else 92 ∷ 120 ∷ hex_digit (octet / 16 % 16) ∷ hex_digit (octet % 16) ∷ []) ≡ true
     by_test true is = rw is refl
     by_test false is =
-        let high : octet / 16 < 16 = omega arith in
+        let high : octet / 16 % 16 < 16 = omega arith in
         let low : octet % 16 < 16 = omega arith in
-        rw (digit_shown (octet / 16) high, digit_shown (octet % 16) low) refl
+        rw (digit_shown (octet / 16 % 16) high, digit_shown (octet % 16) low) refl
 
 pub texts_are_printed : TextsArePrinted
-texts_are_printed [] h = refl
-texts_are_printed (octet ∷ octets) h =
-    rw (list_all-append is_printable (printable_octet octet) (printable octets), octet_shown octet h.0, texts_are_printed octets h.1) refl
+texts_are_printed [] = refl
+texts_are_printed (octet ∷ octets) =
+    rw (list_all-append is_printable (printable_octet octet) (printable octets), octet_shown octet, texts_are_printed octets) refl
 
 -- ---- the line
 
@@ -43,26 +45,16 @@ shown_of (x ∷ xs) h = let parts = and_parts (is_printable x) (list_all is_prin
 both_shown : (xs ys : List ℕ) → list_all is_shown xs ≡ true → list_all is_shown ys ≡ true → list_all is_shown (xs ++ ys) ≡ true
 both_shown xs ys hx hy = list_all-append is_shown xs ys ∙ rw (hx, hy) refl
 
-text_shown : (text : List ℕ) → AreOctets text → list_all is_shown (printable text) ≡ true
-text_shown text h = shown_of (printable text) (texts_are_printed text h)
+text_shown : (text : List ℕ) → list_all is_shown (printable text) ≡ true
+text_shown text = shown_of (printable text) (texts_are_printed text)
 
-octets_joined : (xs ys : List ℕ) → AreOctets xs → AreOctets ys → AreOctets (xs ++ ys)
-octets_joined [] ys hx hy = hy
-octets_joined (x ∷ xs) ys hx hy = (hx.0, octets_joined xs ys hx.1 hy)
+pub printed_shown : (lines : List (List ℕ)) → list_all is_shown (printed lines) ≡ true
+printed_shown [] = refl
+printed_shown (line ∷ lines) = both_shown (printable line) (10 ∷ printed lines) (text_shown line) (printed_shown lines)
 
-other_octets : (others : List (List ℕ)) (at : ℕ) → AllByRecursion AreOctets others → AreOctets (get_or others at [])
-other_octets [] at h = tt
-other_octets (text ∷ texts) zero h = h.0
-other_octets (text ∷ texts) (suc at) h = other_octets texts at h.1
-
-name_octets : (words : NamedWords) (place : Place) → HaveOctets words → AreOctets (name_of words place)
-name_octets words Target h = h.0
-name_octets words Beside h = octets_joined words.target (codes ".new") h.0 (omega arith, (omega arith, (omega arith, (omega arith, tt))))
-name_octets words (File at) h = other_octets words.others at h.1
-
-why_shown : (words : NamedWords) (place : Place) (why : Why) → HaveOctets words → HasOctets (At place why) → list_all is_shown (why_text words why) ≡ true
-why_shown words place why.Unread h k = refl
-why_shown words place (why.Refused refusal) h k = refusal_shown refusal
+why_shown : (words : NamedWords) (why : Why) → list_all is_shown (why_text words why) ≡ true
+why_shown words why.Unread = refl
+why_shown words (why.Refused refusal) = refusal_shown refusal
   where
     refusal_shown : (refusal : Refusal) → list_all is_shown (codes "jose: " ++ refusal_text refusal) ≡ true
     refusal_shown cause.Usage = refl
@@ -82,37 +74,52 @@ why_shown words place (why.Refused refusal) h k = refusal_shown refusal
     refusal_shown cause.Limit = refl
     refusal_shown cause.NotCompact = refl
     refusal_shown cause.NotOpened = refl
-why_shown words place why.OtherMember h k = refl
-why_shown words place (why.KeyTwice thumbprint) h k = both_shown (codes "the key " ++ printable thumbprint) (codes " is there already")
-    (both_shown (codes "the key ") (printable thumbprint) refl (text_shown thumbprint k)) refl
-why_shown words place why.NoSet h k = refl
-why_shown words place why.NoFile h k = refl
-why_shown words place why.Link h k = refl
-why_shown words place why.NotWritable h k = refl
-why_shown words place (why.NoKey at) h k = both_shown (codes "no key has the thumbprint ") (printable (get_or words.others at [])) refl
-    (text_shown (get_or words.others at []) (other_octets words.others at h.1))
-why_shown words place why.NoneStays h k = refl
-why_shown words place why.Exists h k = refl
-why_shown words place why.Claimed h k = refl
-why_shown words place why.NotCreated h k = refl
-why_shown words place why.NotWritten h k = refl
-why_shown words place why.NotOnDisk h k = refl
-why_shown words place why.NotReplaced h k = refl
-why_shown words place why.NotDeleted h k = refl
-why_shown words place why.FolderNotOnDisk h k = refl
+why_shown words why.OtherMember = refl
+why_shown words (why.KeyTwice thumbprint) = both_shown (codes "the key " ++ printable thumbprint) (codes " is there already")
+    (both_shown (codes "the key ") (printable thumbprint) refl (text_shown thumbprint)) refl
+why_shown words why.NoSet = refl
+why_shown words why.NoFile = refl
+why_shown words why.Link = refl
+why_shown words why.NotWritable = refl
+why_shown words (why.NoKey at) = both_shown (codes "no key has the thumbprint ") (printable (get_or words.others at [])) refl
+    (text_shown (get_or words.others at []))
+why_shown words why.NoneStays = refl
+why_shown words why.Exists = refl
+why_shown words why.Claimed = refl
+why_shown words why.NotCreated = refl
+why_shown words why.NotWritten = refl
+why_shown words why.NotOnDisk = refl
+why_shown words why.NotReplaced = refl
+why_shown words why.NotDeleted = refl
+why_shown words why.FolderNotOnDisk = refl
 
-cause_shown : (words : NamedWords) (why : SetCause) → HaveOctets words → HasOctets why → list_all is_shown (cause_text words why) ≡ true
-cause_shown words Usage h k = refl
-cause_shown words Memory h k = refl
-cause_shown words InputTwice h k = refl
-cause_shown words InputSet h k = refl
-cause_shown words Output h k = refl
-cause_shown words (At place why) h k =
+name_shown : (tool : Tool) → list_all is_shown (tool_name tool) ≡ true
+name_shown tool.VerifyAll = refl
+name_shown tool.Set = refl
+name_shown tool.Look = refl
+
+usage_shown : (tool : Tool) → list_all is_shown (usage_text tool) ≡ true
+usage_shown tool.VerifyAll = refl
+usage_shown tool.Set = refl
+usage_shown tool.Look = refl
+
+named_shown : (tool : Tool) (text : List ℕ) → list_all is_shown text ≡ true → list_all is_shown (tool_name tool ++ text) ≡ true
+named_shown tool text shown = both_shown (tool_name tool) text (name_shown tool) shown
+
+cause_shown : (words : NamedWords) (cause : ToolCause) → list_all is_shown (cause_text words cause) ≡ true
+cause_shown words Usage = usage_shown words.tool
+cause_shown words Memory = named_shown words.tool (codes ": jose: 4 Memory") refl
+cause_shown words InputTwice = named_shown words.tool (codes ": -: standard input can be read only once") refl
+cause_shown words InputSet = named_shown words.tool (codes ": -: it is not a file") refl
+cause_shown words Output = named_shown words.tool (codes ": standard output cannot be written") refl
+cause_shown words NotAllRead = named_shown words.tool (codes ": a file cannot be read") refl
+cause_shown words (At place why) =
     let name : List ℕ = printable (name_of words place) in
-    both_shown ((codes "jose-set: " ++ name) ++ codes ": ") (why_text words why)
-    (both_shown (codes "jose-set: " ++ name) (codes ": ")
-    (both_shown (codes "jose-set: ") name refl (text_shown (name_of words place) (name_octets words place h))) refl)
-    (why_shown words place why h k)
+    let front : List ℕ = tool_name words.tool ++ codes ": " in
+    both_shown ((front ++ name) ++ codes ": ") (why_text words why)
+    (both_shown (front ++ name) (codes ": ")
+    (both_shown front name (named_shown words.tool (codes ": ") refl) (text_shown (name_of words place))) refl)
+    (why_shown words why)
 
 pub lines_are_printed : LinesArePrinted
-lines_are_printed words cause h k = both_shown (cause_text words cause) (codes "\n") (cause_shown words cause h k) refl
+lines_are_printed words cause = both_shown (cause_text words cause) (codes "\n") (cause_shown words cause) refl

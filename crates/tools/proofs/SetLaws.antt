@@ -10,11 +10,11 @@ use Rattle.keys.specs.JsonTexts.{AreJsonItems, CompactTextReadsBack, KeepJson, R
 use Rattle.keys.specs.Keys.{OctetKey, octet_key}
 use Rattle.keys.specs.KeySets.{are_objects, items_count, key_objects, key_set, octet_keys, unless_bad, value_keys}
 use Rattle.keys.specs.Limits.{limits}
-use Rattle.tools.specs.declared.set_cause.Place.{Place}
-use Rattle.tools.specs.declared.set_cause.Place.TheVariants.{File, Target}
-use Rattle.tools.specs.declared.set_cause.Why.TheVariants.{NoSet, NoneStays, OtherMember, Refused}
-use Rattle.tools.specs.declared.set_cause.SetCause.TheVariants.{At}
-use Rattle.tools.specs.declared.set_cause.SetCause.{SetCause}
+use Rattle.tools.specs.declared.tool_cause.Place.{Place}
+use Rattle.tools.specs.declared.tool_cause.Place.TheVariants.{File, Target}
+use Rattle.tools.specs.declared.tool_cause.Why.TheVariants.{NoSet, NoneStays, OtherMember, Refused}
+use Rattle.tools.specs.declared.tool_cause.ToolCause.TheVariants.{At}
+use Rattle.tools.specs.declared.tool_cause.ToolCause.{ToolCause}
 use Rattle.tools.specs.Sets.{HeldKeys, JoinedKeys, are_shallow, first_twice, has_octets, all_there, first_unknown, held_keys, is_set, joined_items, left, text_without, thumbprints, judged, most_depth, no_keys, none_twice, set_keys, set_text, set_value, with_keys, with_text}
 use Rattle.tools.specs.SetHeadline.{AddedKeysReadBack, AreKeysOf, JoinedAloneIsTheSame, JoinedKeysReadBack, LeftKeysReadBack, ReadsAs, joined_from, joined_text, unnamed}
 use Rattle.keys.specs.Texts.{is_among}
@@ -25,11 +25,11 @@ use Rattle.tools.proofs.KeyObjects.{keys_of, objects_of, some_keys, value_of}
 
 -- ---- steps
 
-step : {A B : Type 0} (r : Result A SetCause) (f : A → Result B SetCause) (y : B) → (r >>= f) ≡ Ok y → (x : A) × (r ≡ Ok x) × (f x ≡ Ok y)
+step : {A B : Type 0} (r : Result A ToolCause) (f : A → Result B ToolCause) (y : B) → (r >>= f) ≡ Ok y → (x : A) × (r ≡ Ok x) × (f x ≡ Ok y)
 step (Ok x) f y h = (x, refl, h)
 step (Err cause) f y h = cc h
 
-test_passed : (test : Bool) (cause : SetCause) (done : Unit {0}) → needs test cause ≡ Ok done → test ≡ true
+test_passed : (test : Bool) (cause : ToolCause) (done : Unit {0}) → needs test cause ≡ Ok done → test ≡ true
 test_passed true cause done h = refl
 test_passed false cause done h = cc h
 
@@ -60,7 +60,7 @@ held_is read keep place text held h =
     let d = step (judged place (key_objects b.0)) _ held b.2 in
     let alone : Bool = not (is_set b.0) || has_only (codes "keys" ∷ []) b.0 in
     let all : HeldKeys = record { is_set = is_set b.0; objects = d.0; keys = a.0 } in
-    let end : Unit {0} → Result HeldKeys SetCause = λ _. Ok all in
+    let end : Unit {0} → Result HeldKeys ToolCause = λ _. Ok all in
     let e = step (needs alone (At place OtherMember)) (λ _. needs (are_shallow d.0) (At place (Refused Limit)) >>= end) held d.2 in
     let f = step (needs (are_shallow d.0) (At place (Refused Limit))) end held e.2 in
     let reads : key_set limits text true ≡ Ok a.0 = was_judged place (key_set limits text true) a.0 a.1 in
@@ -77,7 +77,7 @@ held_is read keep place text held h =
     } in
     subst (IsHeld text) (ok_is f.2) is
   where
-    ok_is : {x y : HeldKeys} → (let r : Result HeldKeys SetCause = Ok x in r) ≡ Ok y → x ≡ y
+    ok_is : {x y : HeldKeys} → (let r : Result HeldKeys ToolCause = Ok x in r) ≡ Ok y → x ≡ y
     ok_is h = cc h
 
 -- ---- keys that are joined
@@ -162,7 +162,7 @@ with_one place joined more text held j h is =
     let e = joined_is b.2 in
     (subst IsJoined e both, ap (λ (x : JoinedKeys). x.keys) (sym e))
   where
-    joined_is : {x y : JoinedKeys} → (let r : Result JoinedKeys SetCause = Ok x in r) ≡ Ok y → x ≡ y
+    joined_is : {x y : JoinedKeys} → (let r : Result JoinedKeys ToolCause = Ok x in r) ≡ Ok y → x ≡ y
     joined_is h = cc h
 
 -- with the texts that follow
@@ -216,7 +216,7 @@ more_than_some (key ∷ own) rest h = some_length (length (own ++ rest))
     some_length : (n : ℕ) → not (suc n == 0) ≡ true
     some_length n = grind arith
 
-text_is : {x y : List ℕ} → (let r : Result (List ℕ) SetCause = Ok x in r) ≡ Ok y → x ≡ y
+text_is : {x y : List ℕ} → (let r : Result (List ℕ) ToolCause = Ok x in r) ≡ Ok y → x ≡ y
 text_is h = cc h
 
 -- the set of keys that were joined
@@ -359,7 +359,7 @@ left_keys_read_back read keep compact url names text changed h =
     let held = held_is read keep Target text a.0 a.1 in
     let prints : List (List ℕ) = thumbprints a.0.keys in
     let objects : Items = left names prints a.0.objects in
-    let end : Unit {0} → Result (List ℕ) SetCause = λ _. Ok (set_text objects) in
+    let end : Unit {0} → Result (List ℕ) ToolCause = λ _. Ok (set_text objects) in
     let some : Bool = not (items_count objects == 0) in
     let b = step (all_there (first_unknown 0 prints names)) (λ _. needs some (At Target NoneStays) >>= end) changed a.2 in
     let d = step (needs some (At Target NoneStays)) end changed b.2 in

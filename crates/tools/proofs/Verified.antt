@@ -12,7 +12,7 @@ use Rattle.octets.proofs.Lemmas.{AppendsPrefixOf-kept, if_weaker}
 use Rattle.keys.specs.Keys.{OctetKey}
 use Rattle.keys.specs.KeySets.{key_set}
 use Rattle.keys.specs.Limits.{limits}
-use Rattle.tokens.specs.Jws.{ver_all_answer}
+use Rattle.tokens.specs.Jws.{ver_least_answer}
 use Rattle.tokens.specs.Signers.{are_signers}
 use Rattle.jose.specs.declared.commands.WholeInputs.{WholeInputs}
 use Rattle.jose.specs.declared.ports.Inputs.{Inputs}
@@ -24,6 +24,7 @@ use Rattle.jose.specs.Ports.{InputTexts, ArePossibleInputs, on_content, seen_of,
 use Rattle.jose.proofs.Lemmas.{agrees_as_content, if_always, told_both, told_in_order}
 use Rattle.tools.specs.declared.cause.Cause.{Cause}
 use Rattle.tools.specs.declared.cause.Cause.TheVariants.{Refused}
+use Rattle.tools.specs.declared.words.Signers.{Signers}
 use Rattle.tools.specs.Causes.{IsCause, as_refused, refusal_of}
 use Rattle.tools.specs.Code.{caused}
 use Rattle.tools.specs.VerifyAll.{verify_all_answer, VerifiesAll}
@@ -56,19 +57,19 @@ formed_is : (a : Result OutputTexts Refusal) → formed a true ≡ result_unwrap
 formed_is (Ok texts) = refl
 formed_is (Err refusal) = refl
 
-pub wrote_all : {D E : Type 0} {input : InputMembers D} {output : OutputMembers E} {number : ℕ} {settings : Settings} {given wanted : Bool}
+pub wrote_all : {D E : Type 0} {input : InputMembers D} {output : OutputMembers E} {signers : Signers} {settings : Settings} {given wanted : Bool}
     {old new : Inputs D} {before after : Outputs E} {read : WholeInputs} (r : Result (Unit {0}) Cause)
     → given ≡ is_content_given settings → wanted ≡ is_content_wanted settings
     → ReadsInputs input true given old new (Ok read)
     → WritesWhole output false wanted
-    (on_content (ver_all_answer limits number wanted read.keys.items (option_map (λ c. c.items) read.content) read.text.items)) before after (as_refused r)
-    → IfErr r (λ cause. is_external (refusal_of cause) ≡ false → IsCause number read.keys.items cause)
-    → VerifiesAll input output number settings old new before after r
-wrote_all {D} {E} {input} {output} {number} {settings} {given} {wanted} {old} {new} {before} {after} {read = whole} r given_is wanted_is read wrote cause =
+    (on_content (ver_least_answer limits signers.least signers.number wanted read.keys.items (option_map (λ c. c.items) read.content) read.text.items)) before after (as_refused r)
+    → IfErr r (λ cause. is_external (refusal_of cause) ≡ false → IsCause signers.number read.keys.items cause)
+    → VerifiesAll input output signers settings old new before after r
+wrote_all {D} {E} {input} {output} {signers} {settings} {given} {wanted} {old} {new} {before} {after} {read = whole} r given_is wanted_is read wrote cause =
     let seen = seen_of input old new in
     let all : Result OutputTexts Refusal
-    = on_content (ver_all_answer limits number wanted whole.keys.items (option_map (λ c. c.items) whole.content) whole.text.items) in
-    let answered : (inputs : InputTexts) → ArePossibleInputs seen inputs → verify_all_answer number settings inputs ≡ all
+    = on_content (ver_least_answer limits signers.least signers.number wanted whole.keys.items (option_map (λ c. c.items) whole.content) whole.text.items) in
+    let answered : (inputs : InputTexts) → ArePossibleInputs seen inputs → verify_all_answer signers settings inputs ≡ all
     = λ inputs may. rw (
       ← given_is,
       ← wanted_is,
@@ -80,7 +81,7 @@ wrote_all {D} {E} {input} {output} {number} {settings} {given} {wanted} {old} {n
       answer = λ inputs may.
           subst (λ a. AgreesUnlessExternal a (written_texts output.written before after) (as_refused r)) (sym (answered inputs may)) wrote.agrees;
       cause = cause_gives r _ _ cause
-          (λ e holds internal inputs may. subst (λ keys. IsCause number keys e) (sym (read.keys inputs.keys may.keys)) (holds internal));
+          (λ e holds internal inputs may. subst (λ keys. IsCause signers.number keys e) (sym (read.keys inputs.keys may.keys)) (holds internal));
       beginning = on_cause r wrote.beginning (λ part inputs may. rw (answered inputs may, ← formed_is all) part);
       held_back = wrote.held_back;
       keys_in_order = read.keys_in_order;
@@ -97,11 +98,11 @@ wrote_all {D} {E} {input} {output} {number} {settings} {given} {wanted} {old} {n
 
 -- ---- an input fails, or memory
 
-ends_unread : {D E : Type 0} {input : InputMembers D} {number : ℕ} {settings : Settings} {given : Bool} {old new : Inputs D} {e : Refusal}
+ends_unread : {D E : Type 0} {input : InputMembers D} {signers : Signers} {settings : Settings} {given : Bool} {old new : Inputs D} {e : Refusal}
     (output : OutputMembers E) (outs : Outputs E)
     → given ≡ is_content_given settings → ReadsInputs input true given old new (Err e)
-    → VerifiesAll input output number settings old new outs outs (Err (Refused e))
-ends_unread {D} {E} {input} {number} {settings} {given} {old} {new} {e} output outs given_is read =
+    → VerifiesAll input output signers settings old new outs outs (Err (Refused e))
+ends_unread {D} {E} {input} {signers} {settings} {given} {old} {new} {e} output outs given_is read =
     let outside : is_external e ≡ true = read.cause in
     record {
       answer = λ inputs may internal. cc;
@@ -129,33 +130,33 @@ ends_unread {D} {E} {input} {number} {settings} {given} {old} {new} {e} output o
     never : is_external e ≡ false → is_external e ≡ true → ⊥
     never inside outside = cc
 
-pub not_read : {D E : Type 0} {input : InputMembers D} {number : ℕ} {settings : Settings} {given : Bool} {old new : Inputs D} {e : Refusal}
+pub not_read : {D E : Type 0} {input : InputMembers D} {signers : Signers} {settings : Settings} {given : Bool} {old new : Inputs D} {e : Refusal}
     (output : OutputMembers E) (outs : Outputs E) (r : Result (Unit {0}) Cause)
     → given ≡ is_content_given settings → ReadsInputs input true given old new (Err e) → IsErrAnd r (λ cause. cause ≡ Refused e)
-    → VerifiesAll input output number settings old new outs outs r
+    → VerifiesAll input output signers settings old new outs outs r
 not_read output outs (Ok done) given_is read same = absurd same
-not_read {input} {number} {settings} {old} {new} output outs (Err cause) given_is read same =
-    subst (λ cause. VerifiesAll input output number settings old new outs outs (Err cause)) (sym same) (ends_unread output outs given_is read)
+not_read {input} {signers} {settings} {old} {new} output outs (Err cause) given_is read same =
+    subst (λ cause. VerifiesAll input output signers settings old new outs outs (Err cause)) (sym same) (ends_unread output outs given_is read)
 
 -- ---- the payload is read in one pass
 
-pub in_one_pass : {D E : Type 0} {input : InputMembers D} {number : ℕ} {settings : Settings} {old : Inputs D} {text keys content : D}
+pub in_one_pass : {D E : Type 0} {input : InputMembers D} {signers : Signers} {settings : Settings} {old : Inputs D} {text keys content : D}
     (output : OutputMembers E) (outs : Outputs E) (r : Result (Unit {0}) Cause)
     → true ≡ is_content_given settings → false ≡ is_content_wanted settings
     → ((whole_text whole_keys whole_content : List ℕ) → IsPossibleInput (observed input.consumed input.is_at_end old.text text) whole_text
     → IsPossibleInput (observed input.consumed input.is_at_end old.keys keys) whole_keys
     → IsPossibleInput (observed input.consumed input.is_at_end old.content content) whole_content
-    → AgreesUnlessExternal (ver_all_answer limits number false whole_keys (Some whole_content) whole_text) [] (as_refused r))
+    → AgreesUnlessExternal (ver_least_answer limits signers.least signers.number false whole_keys (Some whole_content) whole_text) [] (as_refused r))
     → IfErr r (λ cause. is_external (refusal_of cause) ≡ false → (whole_keys : List ℕ)
-    → IsPossibleInput (observed input.consumed input.is_at_end old.keys keys) whole_keys → IsCause number whole_keys cause)
+    → IsPossibleInput (observed input.consumed input.is_at_end old.keys keys) whole_keys → IsCause signers.number whole_keys cause)
     → (input.is_at_end text ≡ false → keys ≡ old.keys) × (input.is_at_end keys && input.is_at_end text ≡ false → content ≡ old.content)
     → IfErr (as_refused r) (λ refusal. is_external refusal ≡ false
     → IsTrue (input.is_at_end text) × IsTrue (input.is_at_end keys) × IsTrue (input.is_at_end content))
     → TellsFaults (counts input.failures old.text text ∷ counts input.failures old.keys keys ∷ counts input.failures old.content content ∷ []) [] (as_refused r)
-    → VerifiesAll input output number settings old (record old { text = text; keys = keys; content = content }) outs outs r
-in_one_pass {D} {E} {input} {number} {settings} {old} {text} {keys} {content} output outs r given wanted answers cause in_order reads_first told = record {
+    → VerifiesAll input output signers settings old (record old { text = text; keys = keys; content = content }) outs outs r
+in_one_pass {D} {E} {input} {signers} {settings} {old} {text} {keys} {content} output outs r given wanted answers cause in_order reads_first told = record {
   answer = λ inputs may. rw (← given, ← wanted, drop-length (output.written outs.text), drop-length (output.written outs.content))
-      (agrees_as_content (ver_all_answer limits number false inputs.keys (Some inputs.content) inputs.text) [] [] (as_refused r) refl
+      (agrees_as_content (ver_least_answer limits signers.least signers.number false inputs.keys (Some inputs.content) inputs.text) [] [] (as_refused r) refl
       (answers inputs.text inputs.keys inputs.content may.text may.keys may.content));
   cause = cause_gives r _ _ cause (λ e holds internal inputs may. holds internal inputs.keys may.keys);
   beginning = any_cause r (λ inputs may. record { text = AppendsPrefixOf-kept _ _; content = AppendsPrefixOf-kept _ _ });

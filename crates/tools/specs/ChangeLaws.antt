@@ -1,12 +1,12 @@
 -- What the calls of jose-set say of its files.
-use Rattle.std.specs.Prelude.{◌≡◌, ℕ, true, List, [], ◌∷◌, ◌++◌, length, Some, Ok, ◌≢◌, Bool, false, Result, Err, ◌⊎◌}
+use Rattle.std.specs.Prelude.{◌≡◌, ℕ, true, List, [], ◌∷◌, ◌++◌, length, Some, Ok, ◌≢◌, Bool, false, Err, ◌⊎◌}
 use Rattle.std.specs.List.{list_any}
 use Rattle.tools.specs.declared.put_files.Kind.TheVariants as kind
 use Rattle.tools.specs.Calls.{Call, asked, tried, read, created, wrote, owned, synced, put, folder_synced, removed}
-use Rattle.tools.specs.declared.set_cause.Place.TheVariants.{Target}
-use Rattle.tools.specs.declared.set_cause.SetCause.{SetCause}
-use Rattle.tools.specs.declared.set_cause.SetCause.TheVariants.{At}
-use Rattle.tools.specs.declared.set_cause.Why.TheVariants.{FolderNotOnDisk}
+use Rattle.tools.specs.declared.tool_cause.Place.TheVariants.{Target}
+use Rattle.tools.specs.declared.tool_cause.ToolCause.{ToolCause}
+use Rattle.tools.specs.declared.tool_cause.ToolCause.TheVariants.{At}
+use Rattle.tools.specs.declared.tool_cause.Why.TheVariants.{FolderNotOnDisk}
 use Rattle.tools.specs.Changes.{Asked, Changes, adds, removes, beside}
 use Rattle.tools.specs.SetHeadline.{added_text}
 use Rattle.tools.specs.Sets.{text_without}
@@ -48,7 +48,7 @@ is_put call = false
 
 -- After a refusal no file was put in the place of another, except if the folder alone was not brought to the disk.
 abbrev pub RefusalsReplaceNothing : Type 0
-RefusalsReplaceNothing = (request : Asked) (calls : List Call) (cause : SetCause) → Changes request calls (Err cause) → cause ≢ At Target FolderNotOnDisk
+RefusalsReplaceNothing = (request : Asked) (calls : List Call) (cause : ToolCause) → Changes request calls (Err cause) → cause ≢ At Target FolderNotOnDisk
     → list_any is_put calls ≡ false
 
 -- the call is among these
@@ -58,5 +58,5 @@ Has call (other ∷ calls) = (other ≡ call) ⊎ Has call calls
 
 -- Then each file that was created was deleted, or the system refused to.
 abbrev pub RefusalsDeleteWhatIsNew : Type 0
-RefusalsDeleteWhatIsNew = (request : Asked) (calls : List Call) (cause : SetCause) (path : List ℕ) → Changes request calls (Err cause)
+RefusalsDeleteWhatIsNew = (request : Asked) (calls : List Call) (cause : ToolCause) (path : List ℕ) → Changes request calls (Err cause)
     → cause ≢ At Target FolderNotOnDisk → Has (created path (Ok tt)) calls → (did : Bool) × Has (removed path did) calls

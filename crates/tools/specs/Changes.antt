@@ -6,25 +6,25 @@ use Rattle.tools.specs.declared.put_files.Kind.{Kind}
 use Rattle.tools.specs.declared.put_files.Kind.TheVariants as kind
 use Rattle.tools.specs.declared.put_files.NotCreated.{NotCreated}
 use Rattle.tools.specs.declared.put_files.NotCreated.TheVariants as failure
-use Rattle.tools.specs.declared.set_cause.Place.{Place}
-use Rattle.tools.specs.declared.set_cause.Place.TheVariants.{Target, Beside, File}
-use Rattle.tools.specs.declared.set_cause.SetCause.{SetCause}
-use Rattle.tools.specs.declared.set_cause.SetCause.TheVariants.{Memory, Output, At}
-use Rattle.tools.specs.declared.set_cause.Why.{Why}
-use Rattle.tools.specs.declared.set_cause.Why.TheVariants as why
+use Rattle.tools.specs.declared.tool_cause.Place.{Place}
+use Rattle.tools.specs.declared.tool_cause.Place.TheVariants.{Target, Beside, File}
+use Rattle.tools.specs.declared.tool_cause.ToolCause.{ToolCause}
+use Rattle.tools.specs.declared.tool_cause.ToolCause.TheVariants.{Memory, Output, At}
+use Rattle.tools.specs.declared.tool_cause.Why.{Why}
+use Rattle.tools.specs.declared.tool_cause.Why.TheVariants as why
 use Rattle.tools.specs.Calls.{Call, asked, tried, read, written_out, created, wrote, owned, synced, put, removed, folder_synced}
 use Rattle.tools.specs.Steps.{Step, Computes, Calls, Then}
 use Rattle.tools.specs.Sets.{JoinedKeys, no_keys, set_keys, set_text, text_without, with_text}
 
 -- ---- the set that is changed (docs/SPECIFICATION.md "Tools")
 
-abbrev pub by_kind : Kind → Result (Unit {0}) SetCause
+abbrev pub by_kind : Kind → Result (Unit {0}) ToolCause
 by_kind kind.File = Ok tt
 by_kind kind.Link = Err (At Target why.Link)
 by_kind kind.Other = Err (At Target why.NoFile)
 
 -- the name itself is that of a regular file
-pub record IsFile (path : List ℕ) (calls : List Call) (result : Result (Unit {0}) SetCause) : Type 0 where
+pub record IsFile (path : List ℕ) (calls : List Call) (result : Result (Unit {0}) ToolCause) : Type 0 where
   pub kind : Kind
   pub call : calls ≡ asked path kind ∷ []
   pub cause : result ≡ by_kind kind
@@ -39,12 +39,12 @@ Examines path = Then (IsFile path) (λ file. Calls (tried path) (At Target why.N
 abbrev pub beside : List ℕ → List ℕ
 beside path = path ++ codes ".new"
 
-abbrev pub creation_cause : Place → Why → NotCreated → SetCause
+abbrev pub creation_cause : Place → Why → NotCreated → ToolCause
 creation_cause place taken failure.Exists = At place taken
 creation_cause place taken failure.Failed = At place why.NotCreated
 
 -- a new file, unless there is one
-abbrev pub Creates : List ℕ → Place → Why → List Call → Result (Unit {0}) SetCause → Type 0
+abbrev pub Creates : List ℕ → Place → Why → List Call → Result (Unit {0}) ToolCause → Type 0
 Creates path place taken calls (Ok done) = calls ≡ created path (Ok tt) ∷ []
 Creates path place taken calls (Err cause) = (failure : NotCreated) × ((calls ≡ created path (Err failure) ∷ []) × (cause ≡ creation_cause place taken failure))
 
@@ -62,13 +62,13 @@ Refills path target text = Then (Calls (wrote path text) (At Beside why.NotWritt
     (λ done. Then (Calls (owned path target) (At Beside why.NotWritten)) (λ done. Places path target))
 
 -- after a refusal the file is deleted that was created before
-abbrev pub Deletes : List ℕ → Place → Result (Unit {0}) SetCause → List Call → Result (Unit {0}) SetCause → Type 0
+abbrev pub Deletes : List ℕ → Place → Result (Unit {0}) ToolCause → List Call → Result (Unit {0}) ToolCause → Type 0
 Deletes path place (Ok done) calls result = (calls ≡ []) × (result ≡ Ok tt)
 Deletes path place (Err cause) calls result = (did : Bool) × ((calls ≡ removed path did ∷ []) × (result ≡ Err (if did then cause else At place why.NotDeleted)))
 
 -- a step with a file that was created before it: after a refusal this is deleted
-pub record Undoes (path : List ℕ) (place : Place) (step : Step (Unit {0})) (calls : List Call) (result : Result (Unit {0}) SetCause) : Type 0 where
-  pub outcome : Result (Unit {0}) SetCause
+pub record Undoes (path : List ℕ) (place : Place) (step : Step (Unit {0})) (calls : List Call) (result : Result (Unit {0}) ToolCause) : Type 0 where
+  pub outcome : Result (Unit {0}) ToolCause
   pub front : List Call
   pub rest : List Call
   pub calls_are : calls ≡ front ++ rest
@@ -81,17 +81,17 @@ EndsAt path = Calls (folder_synced path) (At Target why.FolderNotOnDisk)
 
 -- ---- what is read (docs/SPECIFICATION.md "Tools")
 
-abbrev pub reading_cause : Place → Refusal → SetCause
+abbrev pub reading_cause : Place → Refusal → ToolCause
 reading_cause place refusal.Memory = Memory
 reading_cause place refusal = At place why.Unread
 
 -- all of a file
-abbrev pub Reads : List ℕ → Place → List Call → Result (List ℕ) SetCause → Type 0
+abbrev pub Reads : List ℕ → Place → List Call → Result (List ℕ) ToolCause → Type 0
 Reads path place calls (Ok text) = calls ≡ read path (Some text) ∷ []
 Reads path place calls (Err cause) = (refusal : Refusal) × ((calls ≡ read path None ∷ []) × (cause ≡ reading_cause place refusal))
 
 -- all of a file, which is judged before anything else is called
-abbrev pub Judges : {A : Type 0} → List ℕ → Place → (List ℕ → Result A SetCause) → Step A
+abbrev pub Judges : {A : Type 0} → List ℕ → Place → (List ℕ → Result A ToolCause) → Step A
 Judges path place judge = Then (Reads path place) (λ text. Computes (judge text))
 
 -- the keys of the files, one after another

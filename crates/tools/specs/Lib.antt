@@ -9,6 +9,9 @@ pub mod VerifyAll
 pub mod Headline
 -- what the words of jose-set ask for
 pub mod SetWords
+-- why jose refuses words, and the lines of jose-look command
+pub mod CommandWords
+pub mod CommandLines
 -- steps that give a value or a cause, and calls of the system
 pub mod Calls
 pub mod Steps
@@ -20,11 +23,21 @@ pub mod SetRequests
 -- what the sets that jose-set makes read as, and what its calls say of its files
 pub mod SetHeadline
 pub mod ChangeLaws
+-- what a terminal shows as it is
+pub mod Printing
+-- what jose-look shows of values, of keys and of texts, and what it does with its files
+pub mod ShownValues
+pub mod LookedKeys
+pub mod LookedObjects
+pub mod Looks
+pub mod LookCalls
+pub mod LookWords
+pub mod LookLaws
 -- around the call: the last line and the status
 pub mod Reports
-pub mod SetReports
+pub mod ToolReports
 pub mod ReportLaws
-pub mod SetEndings
+pub mod ToolEndings
 -- around the call: a whole run over files
 pub mod Runs
 -- around the call: reading and writing whole files
@@ -32,3 +45,4 @@ pub mod Disks
 -- calls of the code; no answer rests on this page
 pub mod Code
 pub mod SetViews
+pub mod CommandViews

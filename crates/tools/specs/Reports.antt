@@ -6,6 +6,8 @@ use Rattle.octets.specs.Devices.{AppendsPrefixOf}
 use Rattle.octets.specs.Refusals.{refusal_text}
 use Rattle.tools.specs.declared.cause.Cause.{Cause}
 use Rattle.tools.specs.declared.cause.Cause.TheVariants.{Refused, BadKeys, OtherNumber, SignAlike}
+use Rattle.tools.specs.declared.words.Tool.TheVariants.{VerifyAll}
+use Rattle.tools.specs.Words.{usage_text}
 
 abbrev pub status_of : Result (Unit {0}) Cause → ℕ
 status_of (Ok done) = 0
@@ -14,7 +16,7 @@ status_of (Err cause) = 1
 -- The beginning of a tool's line: all of it, or what stands before the refusal's number and name. A refusal that is not about the keys is
 -- reported as jose reports it.
 abbrev pub line_head : Cause → List ℕ
-line_head (Refused Usage) = codes "usage: jose-verify-all NUMBER KEYS [WORD..]\nThe words are those of jose jws ver without -k and -a."
+line_head (Refused Usage) = usage_text VerifyAll
 line_head (Refused refusal) = codes "jose: "
 line_head (BadKeys refusal) = codes "jose-verify-all: not every key is good: jose: "
 line_head OtherNumber = codes "jose-verify-all: the number of keys is another one"

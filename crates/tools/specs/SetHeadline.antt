@@ -3,8 +3,8 @@ use Rattle.std.specs.Prelude.{◌≡◌, ℕ, ◌+◌, true, not, filter, List, 
 use Rattle.keys.specs.Keys.{OctetKey}
 use Rattle.keys.specs.KeySets.{key_set}
 use Rattle.keys.specs.Limits.{limits}
-use Rattle.tools.specs.declared.set_cause.Place.TheVariants.{File}
-use Rattle.tools.specs.declared.set_cause.SetCause.{SetCause}
+use Rattle.tools.specs.declared.tool_cause.Place.TheVariants.{File}
+use Rattle.tools.specs.declared.tool_cause.ToolCause.{ToolCause}
 use Rattle.tools.specs.Sets.{JoinedKeys, first_twice, no_keys, set_keys, set_text, text_without, with_text}
 use Rattle.keys.specs.Texts.{is_among}
 use Rattle.keys.specs.Thumbprints.{thumbprint_of}
@@ -13,16 +13,16 @@ use Rattle.tools.specs.Steps.{◌>>=◌}
 
 -- ---- texts that are joined (docs/SPECIFICATION.md "Tools")
 
-abbrev pub joined_from : ℕ → JoinedKeys → List (List ℕ) → Result JoinedKeys SetCause
+abbrev pub joined_from : ℕ → JoinedKeys → List (List ℕ) → Result JoinedKeys ToolCause
 joined_from at joined [] = Ok joined
 joined_from at joined (text ∷ texts) = with_text (File at) joined text >>= λ more. joined_from (at + 1) more texts
 
 -- what `join` writes
-abbrev pub joined_text : List (List ℕ) → Result (List ℕ) SetCause
+abbrev pub joined_text : List (List ℕ) → Result (List ℕ) ToolCause
 joined_text texts = joined_from 0 no_keys texts >>= λ joined. Ok (set_text joined.objects)
 
 -- what `add` writes
-abbrev pub added_text : List ℕ → List (List ℕ) → Result (List ℕ) SetCause
+abbrev pub added_text : List ℕ → List (List ℕ) → Result (List ℕ) ToolCause
 added_text set texts = do
   first ← set_keys set
   joined ← joined_from 0 first texts

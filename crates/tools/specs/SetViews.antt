@@ -4,16 +4,16 @@ use Rattle.serde_json.specs.View.{items_view}
 use Rattle.keys.specs.Keys.{OctetKey}
 use Rattle.tools.specs.declared.changing.Edit.{Edit}
 use Rattle.tools.specs.declared.changing.Edit.TheVariants as edit
-use Rattle.tools.specs.declared.set_cause.SetCause.{SetCause}
-use Rattle.tools.specs.declared.set_report.Words.{Words}
+use Rattle.tools.specs.declared.tool_cause.ToolCause.{ToolCause}
+use Rattle.tools.specs.declared.tool_report.Words.{Words}
 use Rattle.tools.specs.declared.sets.HeldSet.{HeldSet}
 use Rattle.tools.specs.declared.sets.JoinedSet.{JoinedSet}
 use Rattle.tools.specs.Changes.{Editing, adding, removing}
-use Rattle.tools.specs.SetReports.{NamedWords}
+use Rattle.tools.specs.ToolReports.{NamedWords}
 use Rattle.tools.specs.Sets.{HeldKeys, JoinedKeys}
 
 -- the result, seen by view
-abbrev pub seen : {X Y : Type 0} → (X → Y) → Result X SetCause → Result Y SetCause
+abbrev pub seen : {X Y : Type 0} → (X → Y) → Result X ToolCause → Result Y ToolCause
 seen view (Ok x) = Ok (view x)
 seen view (Err cause) = Err cause
 
@@ -33,4 +33,4 @@ abbrev pub joined_view : JoinedSet → JoinedKeys
 joined_view joined = record { objects = items_view joined.objects.items; keys = all_keys joined.sets.items }
 
 abbrev pub named_words : Words → NamedWords
-named_words words = record { target = words.target.now; others = map string_bytes words.others.now }
+named_words words = record { tool = words.tool; target = words.target.now; others = map string_bytes words.others.now }

@@ -14,21 +14,21 @@ use Rattle.keys.specs.KeySets.{items_count, key_objects, key_set}
 use Rattle.keys.specs.Limits.{limits}
 use Rattle.keys.specs.Texts.{is_among}
 use Rattle.keys.specs.Thumbprints.{thumbprint_of}
-use Rattle.tools.specs.declared.set_cause.Place.{Place}
-use Rattle.tools.specs.declared.set_cause.Place.TheVariants.{Target}
-use Rattle.tools.specs.declared.set_cause.SetCause.{SetCause}
-use Rattle.tools.specs.declared.set_cause.SetCause.TheVariants.{Memory, At}
-use Rattle.tools.specs.declared.set_cause.Why.TheVariants.{Refused, OtherMember, KeyTwice, NoSet, NoKey, NoneStays}
+use Rattle.tools.specs.declared.tool_cause.Place.{Place}
+use Rattle.tools.specs.declared.tool_cause.Place.TheVariants.{Target}
+use Rattle.tools.specs.declared.tool_cause.ToolCause.{ToolCause}
+use Rattle.tools.specs.declared.tool_cause.ToolCause.TheVariants.{Memory, At}
+use Rattle.tools.specs.declared.tool_cause.Why.TheVariants.{Refused, OtherMember, KeyTwice, NoSet, NoKey, NoneStays}
 use Rattle.tools.specs.Steps.{◌>>=◌, needs}
 
 -- ---- what a text holds (docs/SPECIFICATION.md "Tools")
 
-abbrev pub refused_by : Place → Refusal → SetCause
+abbrev pub refused_by : Place → Refusal → ToolCause
 refused_by place refusal.Memory = Memory
 refused_by place refusal = At place (Refused refusal)
 
 -- what jose refuses, with the place
-abbrev pub judged : {A : Type 0} → Place → Result A Refusal → Result A SetCause
+abbrev pub judged : {A : Type 0} → Place → Result A Refusal → Result A ToolCause
 judged place (Ok x) = Ok x
 judged place (Err refusal) = Err (refused_by place refusal)
 
@@ -52,7 +52,7 @@ pub record HeldKeys : Type 0 where
   pub keys : List OctetKey
 
 -- The keys of a text, all of which must be good. A set has no other member than `keys`.
-unfoldable pub held_keys : Place → List ℕ → Result HeldKeys SetCause
+unfoldable pub held_keys : Place → List ℕ → Result HeldKeys ToolCause
 held_keys place text = do
   keys ← judged place (key_set limits text true)
   value ← judged place (json_value text)
@@ -71,7 +71,7 @@ abbrev pub first_twice : List OctetKey → List OctetKey → Option OctetKey
 first_twice earlier [] = None
 first_twice earlier (key ∷ keys) = if has_octets earlier key.octets then Some key else first_twice (earlier ++ key ∷ []) keys
 
-abbrev pub none_twice : Place → Option OctetKey → Result (Unit {0}) SetCause
+abbrev pub none_twice : Place → Option OctetKey → Result (Unit {0}) ToolCause
 none_twice place None = Ok tt
 none_twice place (Some key) = Err (At place (KeyTwice (thumbprint_of key S256)))
 
@@ -87,17 +87,17 @@ joined_items no_items others = others
 joined_items (item value values) others = item value (joined_items values others)
 
 -- with the keys of one more text, none of which is there already
-unfoldable pub with_keys : Place → JoinedKeys → HeldKeys → Result JoinedKeys SetCause
+unfoldable pub with_keys : Place → JoinedKeys → HeldKeys → Result JoinedKeys ToolCause
 with_keys place joined held = do
   apart ← none_twice place (first_twice joined.keys held.keys)
   few ← needs (nat_le (items_count joined.objects + items_count held.objects) limits.keys) (At place (Refused refusal.Limit))
   Ok (record { objects = joined_items joined.objects held.objects; keys = joined.keys ++ held.keys })
 
-abbrev pub with_text : Place → JoinedKeys → List ℕ → Result JoinedKeys SetCause
+abbrev pub with_text : Place → JoinedKeys → List ℕ → Result JoinedKeys ToolCause
 with_text place joined text = held_keys place text >>= with_keys place joined
 
 -- the keys of a text that must be a set
-abbrev pub set_keys : List ℕ → Result JoinedKeys SetCause
+abbrev pub set_keys : List ℕ → Result JoinedKeys ToolCause
 set_keys text = do
   held ← held_keys Target text
   set ← needs held.is_set (At Target NoSet)
@@ -126,12 +126,12 @@ abbrev pub first_unknown : ℕ → List (List ℕ) → List (List ℕ) → Optio
 first_unknown at prints [] = None
 first_unknown at prints (name ∷ names) = if is_among prints name then first_unknown (at + 1) prints names else Some at
 
-abbrev pub all_there : Option ℕ → Result (Unit {0}) SetCause
+abbrev pub all_there : Option ℕ → Result (Unit {0}) ToolCause
 all_there None = Ok tt
 all_there (Some at) = Err (At Target (NoKey at))
 
 -- the text of the set without the keys of these thumbprints, each of which must be there; a key must stay
-unfoldable pub text_without : List (List ℕ) → List ℕ → Result (List ℕ) SetCause
+unfoldable pub text_without : List (List ℕ) → List ℕ → Result (List ℕ) ToolCause
 text_without names text = do
   held ← held_keys Target text
   there ← all_there (first_unknown 0 (thumbprints held.keys) names)

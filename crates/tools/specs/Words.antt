@@ -1,7 +1,7 @@
 -- Which tool the program's arguments name, and what its words ask for.
-use Rattle.std.specs.Prelude.{ℕ, ◌-◌, ◌==◌, ◌&&◌, ◌||◌, not, nat_eq, nat_le, slice_index, Bool, List, [], ◌∷◌, length, find, codes, Option, Some, None, if◌then◌else◌, Result, Ok, Err}
+use Rattle.std.specs.Prelude.{ℕ, ◌-◌, ◌==◌, ◌&&◌, ◌||◌, not, nat_eq, nat_le, nat_lt, slice_index, Bool, List, [], ◌∷◌, length, find, codes, Option, Some, None, if◌then◌else◌, Result, Ok, Err}
 use Rattle.std.specs.Char.{is_ascii_digit}
-use Rattle.std.specs.List.{list_all, ends_with}
+use Rattle.std.specs.List.{after_first, before_first, ends_with, list_all, position_or_len}
 use Rattle.std.specs.Option.{ok_or}
 use Rattle.std.specs.Str.{byte, bytes_eq}
 use Rattle.std.specs.Str.Parse.{digits_value}
@@ -11,7 +11,8 @@ use Rattle.octets.specs.Outcomes.{◌>>=◌}
 use Rattle.jose.specs.Invocations.{InvocationView, invocation_view}
 use Rattle.jose.specs.Words.{invocation_of}
 use Rattle.tools.specs.declared.words.Tool.{Tool}
-use Rattle.tools.specs.declared.words.Tool.TheVariants.{VerifyAll, Set}
+use Rattle.tools.specs.declared.words.Tool.TheVariants.{VerifyAll, Set, Look}
+use Rattle.tools.specs.declared.words.Signers.{Signers}
 use Rattle.tools.specs.declared.words.VerifyAllRequest.{VerifyAllRequest}
 
 -- ---- the tool (docs/SPECIFICATION.md "Tools")
@@ -19,9 +20,16 @@ use Rattle.tools.specs.declared.words.VerifyAllRequest.{VerifyAllRequest}
 abbrev pub tool_name : Tool → List ℕ
 tool_name VerifyAll = codes "jose-verify-all"
 tool_name Set = codes "jose-set"
+tool_name Look = codes "jose-look"
 
 abbrev pub tools : List Tool
-tools = VerifyAll ∷ Set ∷ []
+tools = VerifyAll ∷ Set ∷ Look ∷ []
+
+-- what a tool says of words that ask for nothing
+abbrev pub usage_text : Tool → List ℕ
+usage_text VerifyAll = codes "usage: jose-verify-all NUMBER KEYS [WORD..]\nNUMBER is N for each of N signers, or K/N for at least K of them. The words are those of jose jws ver without -k and -a."
+usage_text Set = codes "usage: jose-set join [-o NEW] FILE..\n       jose-set add SET FILE..\n       jose-set remove SET THUMBPRINT.."
+usage_text Look = codes "usage: jose-look FILE..\n       jose-look command WORD.."
 
 -- the tool of this name
 unfoldable pub tool_named : List ℕ → Option Tool
@@ -58,22 +66,40 @@ is_number text = nat_le (length text) 3 && not (length text == 0) && not (slice_
 abbrev pub number_of : List ℕ → Option ℕ
 number_of text = if is_number text then Some (digits_value 10 text) else None
 
+-- at least so many of so many signers, which are not fewer
+abbrev pub signers_from : Option ℕ → Option ℕ → Option Signers
+signers_from (Some least) (Some number) = if nat_le least number then Some (record { least = least; number = number }) else None
+signers_from least number = None
+
+abbrev pub is_slash : ℕ → Bool
+is_slash octet = octet == byte "/"
+
+-- the text has a slash
+abbrev pub has_slash : List ℕ → Bool
+has_slash text = nat_lt (position_or_len is_slash text) (length text)
+
+-- The signers that a word asks for: all of so many, or, around its first slash, at least so many of so many.
+abbrev pub signers_asked : List ℕ → Option Signers
+signers_asked text =
+    if has_slash text
+    then signers_from (number_of (before_first is_slash text)) (number_of (after_first is_slash text))
+    else signers_from (number_of text) (number_of text)
+
 pub record RequestView : Type 0 where
-  -- how many signers there are
-  pub number : ℕ
+  pub signers : Signers
   pub invocation : InvocationView
 
 abbrev pub request_view : VerifyAllRequest → RequestView
-request_view request = record { number = request.number; invocation = invocation_view request.invocation }
+request_view request = record { signers = request.signers; invocation = invocation_view request.invocation }
 
 -- the words of `jose jws ver -a -k KEYS WORD..`
 abbrev pub verifying_words : List ℕ → List (List ℕ) → List (List ℕ)
 verifying_words keys words = codes "jws" ∷ codes "ver" ∷ codes "-a" ∷ codes "-k" ∷ keys ∷ words
 
--- The first word is the number of signers, and the second the keys. The others are those of `jws ver`, which then has its `-a` and `-k`.
+-- The first word asks for signers, and the second names the keys. The others are those of `jws ver`, which then has its `-a` and `-k`.
 unfoldable pub request_of : List (List ℕ) → Result RequestView Refusal
 request_of (number ∷ (keys ∷ words)) = do
-  signers ← ok_or (number_of number) Usage
+  signers ← ok_or (signers_asked number) Usage
   invocation ← invocation_of (verifying_words keys words)
-  Ok (record { number = signers; invocation = invocation })
+  Ok (record { signers = signers; invocation = invocation })
 request_of words = Err Usage

@@ -12,9 +12,9 @@ use crate::joining::{no_keys, set_keys, set_text, with_text};
 use crate::put_files::PutFiles;
 use crate::removing::text_without;
 use crate::replacing::{create, delete_after, end_at, examine, fill, refill};
-use crate::set_cause::{Place, SetCause, Why};
 use crate::set_words::SetRequest;
 use crate::sets::JoinedSet;
+use crate::tool_cause::{Place, ToolCause, Why};
 use octets::Refusal;
 use std::alloc::Global;
 
@@ -32,7 +32,7 @@ pub fn change_set<D: PutFiles>(
     alloc: Global,
     disk: &mut D,
     request: SetRequest<'_>,
-) -> Result<(), SetCause>
+) -> Result<(), ToolCause>
     ensures { Takes D.made disk.old disk.new (Changes (asked_by request.entry)) result }
 {
     match request {
@@ -49,19 +49,20 @@ pub fn change_set<D: PutFiles>(
 }
 
 /// Joins the keys of the files, and writes the set to standard output.
-fn join_out<D: PutFiles>(alloc: Global, disk: &mut D, files: &[String]) -> Result<(), SetCause>
+fn join_out<D: PutFiles>(alloc: Global, disk: &mut D, files: &[String]) -> Result<(), ToolCause>
     ensures { Takes D.made disk.old disk.new (JoinsOut (map string_bytes files.now)) result }
 {
     let text = read_joined(alloc, disk, files)?;
-    write_out(disk, text.as_str())
+    write_out(disk, text.as_bytes())
 }
 
-fn write_out<D: PutFiles>(disk: &mut D, text: &str) -> Result<(), SetCause>
-    ensures { Takes D.made disk.old disk.new (Calls (written_out text.now) SetCause.Output) result }
+/// Writes the octets to standard output.
+pub(crate) fn write_out<D: PutFiles>(disk: &mut D, octets: &[u8]) -> Result<(), ToolCause>
+    ensures { Takes D.made disk.old disk.new (Calls (written_out octets.now) ToolCause.Output) result }
 {
-    match disk.write_out(text.as_bytes()) {
+    match disk.write_out(octets) {
         Ok(()) => Ok(()),
-        Err(_) => Err(SetCause::Output),
+        Err(_) => Err(ToolCause::Output),
     }
 }
 
@@ -72,7 +73,7 @@ fn join_into<D: PutFiles>(
     disk: &mut D,
     new: &str,
     files: &[String],
-) -> Result<(), SetCause>
+) -> Result<(), ToolCause>
     ensures { Takes D.made disk.old disk.new (JoinsInto new.now (map string_bytes files.now)) result }
 {
     let text = read_joined(alloc, disk, files)?;
@@ -89,7 +90,7 @@ fn put_claimed<D: PutFiles>(
     path: &str,
     target: &str,
     text: &str,
-) -> Result<(), SetCause>
+) -> Result<(), ToolCause>
     ensures { Takes D.made disk.old disk.new (PutsClaimed path.now target.now text.now) result }
 {
     let new = create(disk, path, Place::Beside, Why::Claimed)?;
@@ -103,7 +104,7 @@ fn edit_set<D: PutFiles>(
     disk: &mut D,
     set: &str,
     edit: Edit<'_>,
-) -> Result<(), SetCause>
+) -> Result<(), ToolCause>
     ensures { Takes D.made disk.old disk.new (Edits set.now (editing edit.entry)) result }
 {
     examine(disk, set)?;
@@ -118,7 +119,7 @@ fn edit_beside<D: PutFiles>(
     path: &str,
     set: &str,
     edit: Edit<'_>,
-) -> Result<(), SetCause>
+) -> Result<(), ToolCause>
     ensures { Takes D.made disk.old disk.new (EditsBeside path.now set.now (editing edit.entry)) result }
 {
     let new = create(disk, path, Place::Beside, Why::Claimed)?;
@@ -135,7 +136,7 @@ fn rewrite<D: PutFiles>(
     path: &str,
     set: &str,
     edit: Edit<'_>,
-) -> Result<(), SetCause>
+) -> Result<(), ToolCause>
     requires { D.is_new new path.now }
     ensures { Takes D.made disk.old disk.new (Rewrites path.now set.now (editing edit.entry)) result }
 {
@@ -144,7 +145,7 @@ fn rewrite<D: PutFiles>(
 }
 
 /// The name of the new file beside a file.
-fn beside(alloc: Global, path: &str) -> Result<String, SetCause>
+fn beside(alloc: Global, path: &str) -> Result<String, ToolCause>
     ensures { GivesUnlessMemory string_bytes result (Ok (beside path.now)) }
 {
     let mut name = String::from_str(alloc, path)?;
@@ -158,7 +159,7 @@ fn read_edited<D: PutFiles>(
     disk: &mut D,
     set: &str,
     edit: Edit<'_>,
-) -> Result<String, SetCause>
+) -> Result<String, ToolCause>
     ensures { Takes D.made disk.old disk.new (ReadsEdited set.now (editing edit.entry)) (seen string_bytes result) }
 {
     match edit {
@@ -172,7 +173,7 @@ fn read_joined<D: PutFiles>(
     alloc: Global,
     disk: &mut D,
     files: &[String],
-) -> Result<String, SetCause>
+) -> Result<String, ToolCause>
     ensures { Takes D.made disk.old disk.new (ReadsJoined (map string_bytes files.now)) (seen string_bytes result) }
 {
     let joined = gather_all(alloc, disk, files)?;
@@ -185,7 +186,7 @@ fn read_added<D: PutFiles>(
     disk: &mut D,
     set: &str,
     files: &[String],
-) -> Result<String, SetCause>
+) -> Result<String, ToolCause>
     ensures { Takes D.made disk.old disk.new (ReadsAdded set.now (map string_bytes files.now)) (seen string_bytes result) }
 {
     let first = read_set(alloc, disk, set)?;
@@ -193,7 +194,7 @@ fn read_added<D: PutFiles>(
     joined_text(alloc, joined)
 }
 
-fn joined_text(alloc: Global, joined: JoinedSet) -> Result<String, SetCause>
+fn joined_text(alloc: Global, joined: JoinedSet) -> Result<String, ToolCause>
     ensures { GivesUnlessMemory string_bytes result (Ok (set_text (items_view joined.objects.items))) }
 {
     Ok(set_text(alloc, joined.objects)?)
@@ -204,7 +205,7 @@ fn gather_all<D: PutFiles>(
     alloc: Global,
     disk: &mut D,
     files: &[String],
-) -> Result<JoinedSet, SetCause>
+) -> Result<JoinedSet, ToolCause>
     ensures { Takes D.made disk.old disk.new (Gathers 0 no_keys (map string_bytes files.now)) (seen joined_view result) }
 {
     gather(alloc, disk, 0, no_keys(alloc), files)
@@ -217,7 +218,7 @@ fn gather<D: PutFiles>(
     at: usize,
     joined: JoinedSet,
     files: &[String],
-) -> Result<JoinedSet, SetCause>
+) -> Result<JoinedSet, ToolCause>
     requires { at + length files.now < 2 ^ 64 }
     ensures { Takes D.made disk.old disk.new (Gathers at (joined_view joined) (map string_bytes files.now)) (seen joined_view result) }
 {
@@ -237,7 +238,7 @@ fn read_with<D: PutFiles>(
     place: Place,
     joined: JoinedSet,
     file: &str,
-) -> Result<JoinedSet, SetCause>
+) -> Result<JoinedSet, ToolCause>
     ensures { Takes D.made disk.old disk.new (Judges file.now place (with_text place (joined_view joined))) (seen joined_view result) }
 {
     let text = read(alloc, disk, place, file)?;
@@ -245,7 +246,7 @@ fn read_with<D: PutFiles>(
 }
 
 /// The keys of the file, which must be a set.
-fn read_set<D: PutFiles>(alloc: Global, disk: &mut D, set: &str) -> Result<JoinedSet, SetCause>
+fn read_set<D: PutFiles>(alloc: Global, disk: &mut D, set: &str) -> Result<JoinedSet, ToolCause>
     ensures { Takes D.made disk.old disk.new (Judges set.now Place.Target set_keys) (seen joined_view result) }
 {
     let text = read(alloc, disk, Place::Target, set)?;
@@ -258,7 +259,7 @@ fn read_without<D: PutFiles>(
     disk: &mut D,
     set: &str,
     names: &[String],
-) -> Result<String, SetCause>
+) -> Result<String, ToolCause>
     ensures { Takes D.made disk.old disk.new (Judges set.now Place.Target (text_without (map string_bytes names.now))) (seen string_bytes result) }
 {
     let text = read(alloc, disk, Place::Target, set)?;
@@ -271,7 +272,7 @@ fn read<D: PutFiles>(
     disk: &mut D,
     place: Place,
     path: &str,
-) -> Result<Vec<u8>, SetCause>
+) -> Result<Vec<u8>, ToolCause>
     ensures { Takes D.made disk.old disk.new (Reads path.now place) (seen (λ text. text.items) result) }
 {
     match disk.read(alloc, path) {
@@ -280,11 +281,11 @@ fn read<D: PutFiles>(
     }
 }
 
-fn reading_cause(place: Place, refusal: Refusal) -> SetCause
+fn reading_cause(place: Place, refusal: Refusal) -> ToolCause
     ensures { result ≡ reading_cause place refusal }
 {
     match refusal {
-        Refusal::Memory => SetCause::Memory,
-        _ => SetCause::At(place, Why::Unread),
+        Refusal::Memory => ToolCause::Memory,
+        _ => ToolCause::At(place, Why::Unread),
     }
 }

@@ -4,6 +4,7 @@ ghost use Rattle.octets.specs.Devices.{greatest_count, next_count, AppendsPrefix
 ghost use Rattle.tools.specs.Reports.{status_of, line_head, line_end, report_line};
 
 use crate::cause::Cause;
+use crate::words::Tool;
 use octets::{Output, Refusal, write_whole};
 
 /// Returns the program's status. After success it is 0, and nothing is written. After a refusal it is 1, and the line of its cause is
@@ -47,9 +48,7 @@ fn line_head(cause: Cause) -> &'static str
     ensures { result.now ≡ line_head cause }
 {
     match cause {
-        Cause::Refused(Refusal::Usage) => {
-            "usage: jose-verify-all NUMBER KEYS [WORD..]\nThe words are those of jose jws ver without -k and -a."
-        }
+        Cause::Refused(Refusal::Usage) => Tool::VerifyAll.usage(),
         Cause::Refused(_) => "jose: ",
         Cause::BadKeys(_) => "jose-verify-all: not every key is good: jose: ",
         Cause::OtherNumber => "jose-verify-all: the number of keys is another one",

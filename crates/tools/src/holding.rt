@@ -9,8 +9,8 @@ ghost use Rattle.tools.specs.Steps.{GivesUnlessMemory, needs};
 ghost use Rattle.tools.specs.Sets.{are_shallow, held_keys, is_set, judged, refused_by};
 ghost use Rattle.tools.specs.SetViews.{held_view, seen};
 
-use crate::set_cause::{Place, SetCause, Why, needs};
 use crate::sets::HeldSet;
+use crate::tool_cause::{Place, ToolCause, Why, needs};
 use keys::laws::members_keep_floats_out;
 use keys::{KeySet, are_objects, has_only, is_object, nests_at_most, read_json};
 use octets::Refusal;
@@ -23,7 +23,7 @@ const MOST_DEPTH: usize = 125;
 
 /// What the text holds. Each of its keys must be good, and a set has no other member than `keys`.
 #[tactic(auto, unfolding(crate::specs::Sets::held_keys))]
-pub(crate) fn hold(alloc: Global, place: Place, text: &[u8]) -> Result<HeldSet, SetCause>
+pub(crate) fn hold(alloc: Global, place: Place, text: &[u8]) -> Result<HeldSet, ToolCause>
     ensures { GivesUnlessMemory held_view result (held_keys place text.now) }
 {
     let keys = read_keys(alloc, place, text)?;
@@ -32,11 +32,11 @@ pub(crate) fn hold(alloc: Global, place: Place, text: &[u8]) -> Result<HeldSet, 
     let is_set = is_set(&value);
     needs(
         !is_set || has_only(&value, &["keys"]),
-        SetCause::At(place, Why::OtherMember),
+        ToolCause::At(place, Why::OtherMember),
     )?;
     needs(
         are_shallow(&objects),
-        SetCause::At(place, Why::Refused(Refusal::Limit)),
+        ToolCause::At(place, Why::Refused(Refusal::Limit)),
     )?;
     Ok(HeldSet {
         is_set,
@@ -46,16 +46,16 @@ pub(crate) fn hold(alloc: Global, place: Place, text: &[u8]) -> Result<HeldSet, 
 }
 
 /// What `jose` refuses, with the place.
-fn refused_by(place: Place, refusal: Refusal) -> SetCause
+fn refused_by(place: Place, refusal: Refusal) -> ToolCause
     ensures { result ≡ refused_by place refusal }
 {
     match refusal {
-        Refusal::Memory => SetCause::Memory,
-        refusal => SetCause::At(place, Why::Refused(refusal)),
+        Refusal::Memory => ToolCause::Memory,
+        refusal => ToolCause::At(place, Why::Refused(refusal)),
     }
 }
 
-fn read_keys(alloc: Global, place: Place, text: &[u8]) -> Result<KeySet, SetCause>
+fn read_keys(alloc: Global, place: Place, text: &[u8]) -> Result<KeySet, ToolCause>
     ensures { GivesUnlessMemory (λ keys. keys) result (judged place (key_set limits text.now true)) }
 {
     match KeySet::read(alloc, text, true) {
@@ -64,7 +64,7 @@ fn read_keys(alloc: Global, place: Place, text: &[u8]) -> Result<KeySet, SetCaus
     }
 }
 
-fn read_value(alloc: Global, place: Place, text: &[u8]) -> Result<Value, SetCause>
+fn read_value(alloc: Global, place: Place, text: &[u8]) -> Result<Value, ToolCause>
     ensures exact { GivesUnlessMemory view result (judged place (json_value text.now)) }
     ensures no_float { IfOk result (λ value. has_float (view value) ≡ false) }
 {
@@ -75,7 +75,7 @@ fn read_value(alloc: Global, place: Place, text: &[u8]) -> Result<Value, SetCaus
 }
 
 /// The key objects of the value.
-fn read_objects(alloc: Global, place: Place, value: &Value) -> Result<Vec<Value>, SetCause>
+fn read_objects(alloc: Global, place: Place, value: &Value) -> Result<Vec<Value>, ToolCause>
     requires { has_float (view value.now) ≡ false }
     ensures exact { GivesUnlessMemory (λ objects. items_view objects.items) result (judged place (key_objects (view value.now))) }
     ensures no_float { IfOk result (λ objects. items_have_float (items_view objects.items) ≡ false) }
@@ -87,7 +87,7 @@ fn read_objects(alloc: Global, place: Place, value: &Value) -> Result<Vec<Value>
 
 /// The items of the member `keys`, or the value itself if it has no such member.
 #[tactic(auto, unfolding(keys::specs::KeySets::key_objects))]
-fn key_objects(place: Place, value: &Value) -> Result<&[Value], SetCause>
+pub(crate) fn key_objects(place: Place, value: &Value) -> Result<&[Value], ToolCause>
     ensures { seen (λ objects. items_view objects.now) result ≡ judged place (key_objects (view value.now)) }
 {
     needs(is_object(value), bad_key(place))?;
@@ -103,10 +103,10 @@ fn key_objects(place: Place, value: &Value) -> Result<&[Value], SetCause>
     }
 }
 
-fn bad_key(place: Place) -> SetCause
+fn bad_key(place: Place) -> ToolCause
     ensures { result ≡ refused_by place Refusal.Key }
 {
-    SetCause::At(place, Why::Refused(Refusal::Key))
+    ToolCause::At(place, Why::Refused(Refusal::Key))
 }
 
 fn copies(alloc: Global, objects: &[Value]) -> Result<Vec<Value>, AllocError>

@@ -12,8 +12,8 @@ ghost use Rattle.tools.specs.Sets.{first_twice, has_octets, joined_items, no_key
 ghost use Rattle.tools.specs.SetViews.{all_keys, held_view, joined_view};
 
 use crate::holding::hold;
-use crate::set_cause::{Place, SetCause, Thumbprint, Why, needs};
 use crate::sets::{HeldSet, JoinedSet};
+use crate::tool_cause::{Place, Thumbprint, ToolCause, Why, needs};
 use keys::{Key, KeySet, MOST_KEYS, thumbprint};
 use octets::{Refusal, same_octets};
 use prf::HashAlg;
@@ -36,7 +36,7 @@ pub(crate) fn with_text(
     place: Place,
     joined: JoinedSet,
     text: &[u8],
-) -> Result<JoinedSet, SetCause>
+) -> Result<JoinedSet, ToolCause>
     ensures { GivesUnlessMemory joined_view result (with_text place (joined_view joined) text.now) }
 {
     let held = hold(alloc, place, text)?;
@@ -44,11 +44,11 @@ pub(crate) fn with_text(
 }
 
 /// The keys of a text that must be a set.
-pub(crate) fn set_keys(alloc: Global, text: &[u8]) -> Result<JoinedSet, SetCause>
+pub(crate) fn set_keys(alloc: Global, text: &[u8]) -> Result<JoinedSet, ToolCause>
     ensures { GivesUnlessMemory joined_view result (set_keys text.now) }
 {
     let held = hold(alloc, Place::Target, text)?;
-    needs(held.is_set, SetCause::At(Place::Target, Why::NoSet))?;
+    needs(held.is_set, ToolCause::At(Place::Target, Why::NoSet))?;
     with_keys(alloc, Place::Target, no_keys(alloc), held)
 }
 
@@ -59,13 +59,13 @@ fn with_keys(
     place: Place,
     joined: JoinedSet,
     held: HeldSet,
-) -> Result<JoinedSet, SetCause>
+) -> Result<JoinedSet, ToolCause>
     ensures { GivesUnlessMemory joined_view result (with_keys place (joined_view joined) (held_view held)) }
 {
     none_twice(alloc, place, &joined.sets, held.keys.keys())?;
     needs(
         are_few(joined.objects.len(), held.objects.len()),
-        SetCause::At(place, Why::Refused(Refusal::Limit)),
+        ToolCause::At(place, Why::Refused(Refusal::Limit)),
     )?;
     Ok(joined_with(joined, held)?)
 }
@@ -99,14 +99,14 @@ fn are_few(one: usize, other: usize) -> bool
 }
 
 /// Refuses if one of the keys is there already.
-fn none_twice(alloc: Global, place: Place, sets: &[KeySet], keys: &[Key]) -> Result<(), SetCause>
+fn none_twice(alloc: Global, place: Place, sets: &[KeySet], keys: &[Key]) -> Result<(), ToolCause>
     ensures { GivesUnlessMemory (λ done. done) result (none_twice place (first_twice (all_keys sets.now) (map key_view keys.now))) }
 {
     match first_twice(sets, keys) {
         None => Ok(()),
         Some(key) => {
             let thumbprint = thumbprint_of(alloc, key)?;
-            Err(SetCause::At(place, Why::KeyTwice(thumbprint)))
+            Err(ToolCause::At(place, Why::KeyTwice(thumbprint)))
         }
     }
 }

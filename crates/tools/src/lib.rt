@@ -9,47 +9,67 @@ ghost use Rattle.std.specs.Prelude.{◌≡◌, ◌⊎◌, ℕ, List, map, string
 ghost use Rattle.octets.specs.declared.refusal.Refusal.{Refusal as Refused};
 ghost use Rattle.jose.specs.System.{AreHeld};
 ghost use Rattle.tools.specs.Reports.{IsReported};
-ghost use Rattle.tools.specs.Runs.{Performs, SetsAsAsked, VerifiesAsAsked};
+ghost use Rattle.tools.specs.Runs.{LooksAsAsked, Performs, SetsAsAsked, VerifiesAsAsked};
 
 mod cause;
 mod changing;
+mod command;
+mod command_files;
+mod command_lines;
+mod command_words;
 mod disk;
 mod ending;
 mod holding;
+mod iterations;
 mod joining;
 pub mod laws;
 pub mod line_laws;
+mod look_requests;
+mod look_words;
+mod looked_keys;
+mod looking;
+mod looks;
+mod object_lines;
+mod printing;
 mod put_files;
 mod removing;
 mod replacing;
-mod set_cause;
-mod set_report;
+mod serving;
 mod set_words;
 mod sets;
+mod shown_values;
+mod text_kind;
+mod tool_cause;
+mod tool_report;
 mod verifying;
 mod words;
 
 use crate::disk::Disk;
-use crate::set_report::{no_words, report_set, words_of};
+use crate::tool_report::{no_words, report_tool, words_of};
 use crate::words::tool_of;
 pub use cause::Cause;
 pub use changing::change_set;
+pub use command::explain;
+pub use command_files::{FindFiles, Found};
 pub use ending::report;
 use jose::{System, inputs, outputs, placeholders};
+pub use look_requests::look;
+pub use look_words::{LookRequest, parse_look};
+pub use looking::show_files;
 use octets::{Output, Refusal, WriterOutput};
 pub use put_files::{Kind, NotCreated, PutFiles};
-pub use set_cause::{Place, SetCause, Thumbprint, Why};
 pub use set_words::{SetRequest, parse_set};
 use std::alloc::Global;
 use std::io::{Stdin, Stdout};
 use std::os::fd::AsRawFd;
 use std::process::ExitCode;
+pub use tool_cause::{Place, Thumbprint, ToolCause, Why};
 pub use verifying::verify_all;
-pub use words::{Tool, VerifyAllRequest, parse_verify_all};
+pub use words::{Signers, Tool, VerifyAllRequest, parse_verify_all};
 
 /// Reads the arguments, does what they ask, over files and the standard streams, and reports a refusal. Returns the program's status.
 /// Arguments that are not UTF-8 name no tool.
-fn perform<S: System, D: PutFiles, O: Output>(
+fn perform<S: System, D: PutFiles + FindFiles, O: Output>(
     alloc: Global,
     system: &S,
     disk: &mut D,
@@ -61,7 +81,7 @@ where
     S::File: AsRawFd,
     ensures { IsReported O.written (Err (Cause.Refused Refusal.Memory)) result errors.old errors.new
         ⊎ ((args : Answer (List (List ℕ)) Refused) × (S.args_gives system.now args
-        × Performs D.made O.written S S.Uncut S.File args disk.old disk.new result errors.old errors.new)) }
+        × Performs D.made D.finds O.written S S.Uncut S.File args disk.old disk.new result errors.old errors.new)) }
 {
     let held = match placeholders(system) {
         Ok(held) => held,
@@ -77,6 +97,7 @@ where
             report(outcome, errors)
         }
         Ok((Tool::Set, words)) => serve_set(alloc, disk, words, errors),
+        Ok((Tool::Look, words)) => serve_look(alloc, disk, words, errors),
         Err(refusal) => report(Err(Cause::Refused(refusal)), errors),
     }
 }
@@ -93,9 +114,27 @@ fn serve_set<D: PutFiles, O: Output>(
     match parse_set(words) {
         Ok(request) => {
             let outcome = change_set(alloc, disk, request);
-            report_set(alloc, words_of(request), outcome, errors)
+            report_tool(alloc, words_of(request), outcome, errors)
         }
-        Err(cause) => report_set(alloc, no_words(), Err(cause), errors),
+        Err(cause) => report_tool(alloc, no_words(Tool::Set), Err(cause), errors),
+    }
+}
+
+/// Does what the words ask of `jose-look`, and reports a refusal.
+fn serve_look<D: PutFiles + FindFiles, O: Output>(
+    alloc: Global,
+    disk: &mut D,
+    words: &[String],
+    errors: &mut O,
+) -> u8
+    ensures { LooksAsAsked D.made D.finds O.written (map string_bytes words.now) disk.old disk.new result errors.old errors.new }
+{
+    match parse_look(words) {
+        Ok(request) => {
+            let outcome = look(alloc, disk, request);
+            report_tool(alloc, no_words(Tool::Look), outcome, errors)
+        }
+        Err(cause) => report_tool(alloc, no_words(Tool::Look), Err(cause), errors),
     }
 }
 
@@ -118,7 +157,7 @@ where
     let mut outputs = outputs(files, stdout, &request.invocation);
     verify_all(
         alloc,
-        request.number,
+        request.signers,
         &request.invocation,
         &mut inputs,
         &mut outputs,
@@ -144,5 +183,7 @@ pub fn start(rt: HostRuntime) -> ExitCode {
     ))
 }
 
+#[cfg(test)]
+mod command_tests;
 #[cfg(test)]
 mod tests;

@@ -9,14 +9,18 @@ ghost use Rattle.tools.specs.Sets.{all_there, first_unknown, left, set_text, tex
 
 use crate::holding::hold;
 use crate::joining::{set_text, thumbprint_of};
-use crate::set_cause::{Place, SetCause, Thumbprint, Why, needs};
+use crate::tool_cause::{Place, Thumbprint, ToolCause, Why, needs};
 use keys::Key;
 use serde_json::Value;
 use std::alloc::{AllocError, Global};
 
 /// The text of the set without the keys of these thumbprints.
 #[tactic(auto, unfolding(crate::specs::Sets::text_without), using(crate::proofs::JoinedKeys::counted))]
-pub(crate) fn text_without(alloc: Global, names: &[String], text: &[u8]) -> Result<String, SetCause>
+pub(crate) fn text_without(
+    alloc: Global,
+    names: &[String],
+    text: &[u8],
+) -> Result<String, ToolCause>
     ensures { GivesUnlessMemory string_bytes result (text_without (map string_bytes names.now) text.now) }
 {
     let held = hold(alloc, Place::Target, text)?;
@@ -25,7 +29,7 @@ pub(crate) fn text_without(alloc: Global, names: &[String], text: &[u8]) -> Resu
     let left = left(alloc, names, &prints, &held.objects)?;
     needs(
         !left.is_empty(),
-        SetCause::At(Place::Target, Why::NoneStays),
+        ToolCause::At(Place::Target, Why::NoneStays),
     )?;
     Ok(set_text(alloc, left)?)
 }
@@ -41,12 +45,12 @@ fn thumbprints(alloc: Global, keys: &[Key]) -> Result<Vec<Thumbprint>, AllocErro
 }
 
 /// Refuses if a thumbprint at this place among the words is that of no key.
-fn all_there(unknown: Option<usize>) -> Result<(), SetCause>
+fn all_there(unknown: Option<usize>) -> Result<(), ToolCause>
     ensures { result ≡ all_there unknown }
 {
     match unknown {
         None => Ok(()),
-        Some(at) => Err(SetCause::At(Place::Target, Why::NoKey(at))),
+        Some(at) => Err(ToolCause::At(Place::Target, Why::NoKey(at))),
     }
 }
 

@@ -5,10 +5,10 @@ ghost use Rattle.tools.specs.Steps.{Takes, Calls};
 ghost use Rattle.tools.specs.Changes.{IsFile, by_kind, Examines, Creates, creation_cause, Places, Fills, Refills, Deletes, EndsAt};
 
 use crate::put_files::{Kind, NotCreated, PutFiles};
-use crate::set_cause::{Place, SetCause, Why};
+use crate::tool_cause::{Place, ToolCause, Why};
 
 /// The set that is changed must be a regular file that may be written.
-pub(crate) fn examine<D: PutFiles>(disk: &mut D, set: &str) -> Result<(), SetCause>
+pub(crate) fn examine<D: PutFiles>(disk: &mut D, set: &str) -> Result<(), ToolCause>
     ensures { Takes D.made disk.old disk.new (Examines set.now) result }
 {
     needs_file(disk, set)?;
@@ -16,29 +16,29 @@ pub(crate) fn examine<D: PutFiles>(disk: &mut D, set: &str) -> Result<(), SetCau
 }
 
 /// Refuses unless the name itself is that of a regular file.
-fn needs_file<D: PutFiles>(disk: &mut D, set: &str) -> Result<(), SetCause>
+fn needs_file<D: PutFiles>(disk: &mut D, set: &str) -> Result<(), ToolCause>
     ensures { Takes D.made disk.old disk.new (IsFile set.now) result }
 {
     by_kind(disk.kind(set))
 }
 
-fn by_kind(kind: Kind) -> Result<(), SetCause>
+fn by_kind(kind: Kind) -> Result<(), ToolCause>
     ensures { result ≡ by_kind kind }
 {
     match kind {
         Kind::File => Ok(()),
-        Kind::Link => Err(SetCause::At(Place::Target, Why::Link)),
-        Kind::Other => Err(SetCause::At(Place::Target, Why::NoFile)),
+        Kind::Link => Err(ToolCause::At(Place::Target, Why::Link)),
+        Kind::Other => Err(ToolCause::At(Place::Target, Why::NoFile)),
     }
 }
 
-fn needs_writable<D: PutFiles>(disk: &mut D, set: &str) -> Result<(), SetCause>
-    ensures { Takes D.made disk.old disk.new (Calls (tried set.now) (SetCause.At Place.Target Why.NotWritable)) result }
+fn needs_writable<D: PutFiles>(disk: &mut D, set: &str) -> Result<(), ToolCause>
+    ensures { Takes D.made disk.old disk.new (Calls (tried set.now) (ToolCause.At Place.Target Why.NotWritable)) result }
 {
     if disk.may_write(set) {
         Ok(())
     } else {
-        Err(SetCause::At(Place::Target, Why::NotWritable))
+        Err(ToolCause::At(Place::Target, Why::NotWritable))
     }
 }
 
@@ -48,7 +48,7 @@ pub(crate) fn create<D: PutFiles>(
     path: &str,
     place: Place,
     taken: Why,
-) -> Result<D::New, SetCause>
+) -> Result<D::New, ToolCause>
     ensures takes { Takes D.made disk.old disk.new (Creates path.now place taken) (as_done result) }
     ensures name { IfOk result (λ new. D.is_new new path.now) }
 {
@@ -58,12 +58,12 @@ pub(crate) fn create<D: PutFiles>(
     }
 }
 
-fn creation_cause(place: Place, taken: Why, failure: NotCreated) -> SetCause
+fn creation_cause(place: Place, taken: Why, failure: NotCreated) -> ToolCause
     ensures { result ≡ creation_cause place taken failure }
 {
     match failure {
-        NotCreated::Exists => SetCause::At(place, taken),
-        NotCreated::Failed => SetCause::At(place, Why::NotCreated),
+        NotCreated::Exists => ToolCause::At(place, taken),
+        NotCreated::Failed => ToolCause::At(place, Why::NotCreated),
     }
 }
 
@@ -72,26 +72,26 @@ pub(crate) fn delete_after<D: PutFiles>(
     disk: &mut D,
     path: &str,
     place: Place,
-    outcome: Result<(), SetCause>,
-) -> Result<(), SetCause>
+    outcome: Result<(), ToolCause>,
+) -> Result<(), ToolCause>
     ensures { Takes D.made disk.old disk.new (Deletes path.now place outcome) result }
 {
     match outcome {
         Ok(()) => Ok(()),
         Err(cause) => match disk.remove(path) {
             Ok(()) => Err(cause),
-            Err(_) => Err(SetCause::At(place, Why::NotDeleted)),
+            Err(_) => Err(ToolCause::At(place, Why::NotDeleted)),
         },
     }
 }
 
 /// Brings the folder of the file that was changed to the disk.
-pub(crate) fn end_at<D: PutFiles>(disk: &mut D, target: &str) -> Result<(), SetCause>
+pub(crate) fn end_at<D: PutFiles>(disk: &mut D, target: &str) -> Result<(), ToolCause>
     ensures { Takes D.made disk.old disk.new (EndsAt target.now) result }
 {
     match disk.sync_folder(target) {
         Ok(()) => Ok(()),
-        Err(_) => Err(SetCause::At(Place::Target, Why::FolderNotOnDisk)),
+        Err(_) => Err(ToolCause::At(Place::Target, Why::FolderNotOnDisk)),
     }
 }
 
@@ -102,7 +102,7 @@ pub(crate) fn fill<D: PutFiles>(
     path: &str,
     target: &str,
     text: &str,
-) -> Result<(), SetCause>
+) -> Result<(), ToolCause>
     requires { D.is_new new path.now }
     ensures { Takes D.made disk.old disk.new (Fills path.now target.now text.now) result }
 {
@@ -117,7 +117,7 @@ pub(crate) fn refill<D: PutFiles>(
     path: &str,
     target: &str,
     text: &str,
-) -> Result<(), SetCause>
+) -> Result<(), ToolCause>
     requires { D.is_new new path.now }
     ensures { Takes D.made disk.old disk.new (Refills path.now target.now text.now) result }
 {
@@ -131,29 +131,29 @@ fn write<D: PutFiles>(
     new: &mut D::New,
     path: &str,
     text: &str,
-) -> Result<(), SetCause>
+) -> Result<(), ToolCause>
     requires { D.is_new new.old path.now }
-    ensures takes { Takes D.made disk.old disk.new (Calls (wrote path.now text.now) (SetCause.At Place.Beside Why.NotWritten)) result }
+    ensures takes { Takes D.made disk.old disk.new (Calls (wrote path.now text.now) (ToolCause.At Place.Beside Why.NotWritten)) result }
     ensures name { D.is_new new.new path.now }
 {
     match disk.write(new, path, text.as_bytes()) {
         Ok(()) => Ok(()),
-        Err(_) => Err(SetCause::At(Place::Beside, Why::NotWritten)),
+        Err(_) => Err(ToolCause::At(Place::Beside, Why::NotWritten)),
     }
 }
 
-fn own<D: PutFiles>(disk: &mut D, new: &D::New, path: &str, old: &str) -> Result<(), SetCause>
+fn own<D: PutFiles>(disk: &mut D, new: &D::New, path: &str, old: &str) -> Result<(), ToolCause>
     requires { D.is_new new.now path.now }
-    ensures { Takes D.made disk.old disk.new (Calls (owned path.now old.now) (SetCause.At Place.Beside Why.NotWritten)) result }
+    ensures { Takes D.made disk.old disk.new (Calls (owned path.now old.now) (ToolCause.At Place.Beside Why.NotWritten)) result }
 {
     match disk.own_as(new, path, old) {
         Ok(()) => Ok(()),
-        Err(_) => Err(SetCause::At(Place::Beside, Why::NotWritten)),
+        Err(_) => Err(ToolCause::At(Place::Beside, Why::NotWritten)),
     }
 }
 
 /// Brings the new file to the disk, and only then puts it in the place of the target.
-fn place<D: PutFiles>(disk: &mut D, new: D::New, path: &str, target: &str) -> Result<(), SetCause>
+fn place<D: PutFiles>(disk: &mut D, new: D::New, path: &str, target: &str) -> Result<(), ToolCause>
     requires { D.is_new new path.now }
     ensures { Takes D.made disk.old disk.new (Places path.now target.now) result }
 {
@@ -161,23 +161,23 @@ fn place<D: PutFiles>(disk: &mut D, new: D::New, path: &str, target: &str) -> Re
     put(disk, file, path, target)
 }
 
-fn sync<D: PutFiles>(disk: &mut D, new: D::New, path: &str) -> Result<D::Synced, SetCause>
+fn sync<D: PutFiles>(disk: &mut D, new: D::New, path: &str) -> Result<D::Synced, ToolCause>
     requires { D.is_new new path.now }
-    ensures takes { Takes D.made disk.old disk.new (Calls (synced path.now) (SetCause.At Place.Beside Why.NotOnDisk)) (as_done result) }
+    ensures takes { Takes D.made disk.old disk.new (Calls (synced path.now) (ToolCause.At Place.Beside Why.NotOnDisk)) (as_done result) }
     ensures name { IfOk result (λ file. D.is_synced file path.now) }
 {
     match disk.sync(new, path) {
         Ok(file) => Ok(file),
-        Err(_) => Err(SetCause::At(Place::Beside, Why::NotOnDisk)),
+        Err(_) => Err(ToolCause::At(Place::Beside, Why::NotOnDisk)),
     }
 }
 
-fn put<D: PutFiles>(disk: &mut D, file: D::Synced, from: &str, to: &str) -> Result<(), SetCause>
+fn put<D: PutFiles>(disk: &mut D, file: D::Synced, from: &str, to: &str) -> Result<(), ToolCause>
     requires { D.is_synced file from.now }
-    ensures { Takes D.made disk.old disk.new (Calls (put from.now to.now) (SetCause.At Place.Target Why.NotReplaced)) result }
+    ensures { Takes D.made disk.old disk.new (Calls (put from.now to.now) (ToolCause.At Place.Target Why.NotReplaced)) result }
 {
     match disk.put(file, from, to) {
         Ok(()) => Ok(()),
-        Err(_) => Err(SetCause::At(Place::Target, Why::NotReplaced)),
+        Err(_) => Err(ToolCause::At(Place::Target, Why::NotReplaced)),
     }
 }

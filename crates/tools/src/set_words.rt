@@ -4,7 +4,7 @@ ghost use Rattle.tools.specs.SetViews.{seen};
 ghost use Rattle.tools.specs.SetRequests.{asked_by};
 ghost use Rattle.tools.specs.SetWords.{is_input, is_option, operands, after, attached, reads_input_once, joining, joining_into, joining_next, joining_of, adding_of, removing_of, set_request_of};
 
-use crate::set_cause::{SetCause, needs};
+use crate::tool_cause::{ToolCause, needs};
 
 /// What `jose-set` is asked for.
 #[derive(Clone, Copy)]
@@ -27,22 +27,22 @@ pub enum SetRequest<'w> {
 }
 
 /// What the words ask of `jose-set`.
-pub fn parse_set(words: &[String]) -> Result<SetRequest<'_>, SetCause>
+pub fn parse_set(words: &[String]) -> Result<SetRequest<'_>, ToolCause>
     ensures { seen asked_by result ≡ set_request_of (map string_bytes words.now) }
 {
     let [verb, words @ ..] = words else {
-        return Err(SetCause::Usage);
+        return Err(ToolCause::Usage);
     };
     match verb.as_str() {
         "join" => parse_join(words),
         "add" => parse_add(operands(words)?),
         "remove" => parse_remove(operands(words)?),
-        _ => Err(SetCause::Usage),
+        _ => Err(ToolCause::Usage),
     }
 }
 
 /// The words without an end of options. Another option is refused.
-fn operands(words: &[String]) -> Result<&[String], SetCause>
+pub(crate) fn operands(words: &[String]) -> Result<&[String], ToolCause>
     ensures { seen (λ words. map string_bytes words.now) result ≡ operands (map string_bytes words.now) }
 {
     let [word, rest @ ..] = words else {
@@ -51,7 +51,7 @@ fn operands(words: &[String]) -> Result<&[String], SetCause>
     if word.as_str() == "--" {
         Ok(rest)
     } else if is_option(word.as_str()) {
-        Err(SetCause::Usage)
+        Err(ToolCause::Usage)
     } else {
         Ok(words)
     }
@@ -69,11 +69,11 @@ fn is_input(word: &str) -> bool
     word == "-"
 }
 
-fn parse_join(words: &[String]) -> Result<SetRequest<'_>, SetCause>
+fn parse_join(words: &[String]) -> Result<SetRequest<'_>, ToolCause>
     ensures { seen asked_by result ≡ joining_of (map string_bytes words.now) }
 {
     let [first, rest @ ..] = words else {
-        return Err(SetCause::Usage);
+        return Err(ToolCause::Usage);
     };
     if first.as_str() == "-o" {
         return join_next(rest);
@@ -85,14 +85,14 @@ fn parse_join(words: &[String]) -> Result<SetRequest<'_>, SetCause>
 }
 
 /// NEW is a word of its own.
-fn join_next(words: &[String]) -> Result<SetRequest<'_>, SetCause>
+fn join_next(words: &[String]) -> Result<SetRequest<'_>, ToolCause>
     ensures { seen asked_by result ≡ joining_next (map string_bytes words.now) }
 {
     let [new, rest @ ..] = words else {
-        return Err(SetCause::Usage);
+        return Err(ToolCause::Usage);
     };
     if is_option(new.as_str()) {
-        return Err(SetCause::Usage);
+        return Err(ToolCause::Usage);
     }
     join_into(new.as_str(), rest)
 }
@@ -113,46 +113,46 @@ fn after(text: &str, front: char) -> Option<&str>
     text.strip_prefix(front)
 }
 
-fn join_into<'w>(new: &'w str, words: &'w [String]) -> Result<SetRequest<'w>, SetCause>
+fn join_into<'w>(new: &'w str, words: &'w [String]) -> Result<SetRequest<'w>, ToolCause>
     ensures { seen asked_by result ≡ joining_into new.now (map string_bytes words.now) }
 {
-    needs(!new.is_empty(), SetCause::Usage)?;
-    needs(!is_input(new), SetCause::Usage)?;
+    needs(!new.is_empty(), ToolCause::Usage)?;
+    needs(!is_input(new), ToolCause::Usage)?;
     join(Some(new), words)
 }
 
-fn join<'w>(new: Option<&'w str>, words: &'w [String]) -> Result<SetRequest<'w>, SetCause>
+fn join<'w>(new: Option<&'w str>, words: &'w [String]) -> Result<SetRequest<'w>, ToolCause>
     ensures { seen asked_by result ≡ joining (option_map (λ name. name.now) new.entry) (map string_bytes words.now) }
 {
     let files = operands(words)?;
-    needs(!files.is_empty(), SetCause::Usage)?;
-    needs(reads_input_once(files), SetCause::InputTwice)?;
+    needs(!files.is_empty(), ToolCause::Usage)?;
+    needs(reads_input_once(files), ToolCause::InputTwice)?;
     Ok(SetRequest::Join { new, files })
 }
 
-fn parse_add(words: &[String]) -> Result<SetRequest<'_>, SetCause>
+fn parse_add(words: &[String]) -> Result<SetRequest<'_>, ToolCause>
     ensures { seen asked_by result ≡ adding_of (map string_bytes words.now) }
 {
     let [set, files @ ..] = words else {
-        return Err(SetCause::Usage);
+        return Err(ToolCause::Usage);
     };
-    needs(!files.is_empty(), SetCause::Usage)?;
-    needs(!is_input(set.as_str()), SetCause::InputSet)?;
-    needs(reads_input_once(files), SetCause::InputTwice)?;
+    needs(!files.is_empty(), ToolCause::Usage)?;
+    needs(!is_input(set.as_str()), ToolCause::InputSet)?;
+    needs(reads_input_once(files), ToolCause::InputTwice)?;
     Ok(SetRequest::Add {
         set: set.as_str(),
         files,
     })
 }
 
-fn parse_remove(words: &[String]) -> Result<SetRequest<'_>, SetCause>
+fn parse_remove(words: &[String]) -> Result<SetRequest<'_>, ToolCause>
     ensures { seen asked_by result ≡ removing_of (map string_bytes words.now) }
 {
     let [set, thumbprints @ ..] = words else {
-        return Err(SetCause::Usage);
+        return Err(ToolCause::Usage);
     };
-    needs(!thumbprints.is_empty(), SetCause::Usage)?;
-    needs(!is_input(set.as_str()), SetCause::InputSet)?;
+    needs(!thumbprints.is_empty(), ToolCause::Usage)?;
+    needs(!is_input(set.as_str()), ToolCause::InputSet)?;
     Ok(SetRequest::Remove {
         set: set.as_str(),
         thumbprints,
@@ -160,7 +160,7 @@ fn parse_remove(words: &[String]) -> Result<SetRequest<'_>, SetCause>
 }
 
 /// Whether standard input is among the files once, or not at all.
-fn reads_input_once(files: &[String]) -> bool
+pub(crate) fn reads_input_once(files: &[String]) -> bool
     ensures { result ≡ reads_input_once (map string_bytes files.now) }
 {
     files.iter().filter(|file| is_input(file.as_str())).count() <= 1

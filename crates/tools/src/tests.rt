@@ -1,5 +1,7 @@
-//! `jose-set` over files in memory. Each call fails in turn. Then the set is as it was, and no new file is left.
-use crate::{Kind, NotCreated, PutFiles, change_set, parse_set};
+//! `jose-set` and `jose-look` over files in memory. Each call fails in turn. Then a set is as it was, and no new file is left.
+mod looks;
+
+use crate::{FindFiles, Found, Kind, NotCreated, PutFiles, change_set, parse_set};
 use octets::{Fault, Refusal};
 use std::alloc::{AllocError, Global};
 use std::process::Abort;
@@ -94,6 +96,20 @@ fn copied(alloc: Global, octets: &[u8]) -> Result<Vec<u8>, AllocError> {
 #[derive(Drop)]
 struct New;
 
+impl FindFiles for Files {
+    ghost use Rattle.std.specs.Prelude.{⊤};
+
+    ghost finds = { λ _ _ _. ⊤ };
+
+    fn find(&self, path: &str) -> Found {
+        if self.text_of(path).is_some() {
+            Found::File
+        } else {
+            Found::Missing
+        }
+    }
+}
+
 impl PutFiles for Files {
     ghost use Rattle.std.specs.Prelude.{⊤};
 
@@ -131,7 +147,13 @@ impl PutFiles for Files {
 
     fn write_out(&mut self, octets: &[u8]) -> Result<(), Fault> {
         self.call()?;
-        self.keep("-", octets)
+        let Ok(mut text) = copied(self.alloc, self.text_of("-").unwrap_or(b"")) else {
+            return Err(Fault::Writing);
+        };
+        match text.extend_from_slice(octets) {
+            Ok(()) => self.keep("-", &text),
+            Err(_) => Err(Fault::Writing),
+        }
     }
 
     fn create_new(&mut self, path: &str) -> Result<New, NotCreated> {

@@ -33,7 +33,7 @@ pub enum Command {
 
 /// Whether an option has a value, and which one if none is given.
 #[derive(Clone, Copy)]
-pub(crate) enum Kind {
+pub enum Kind {
     /// No value. The option is there or not.
     Flag,
     /// A value, which must be given.
@@ -46,7 +46,7 @@ pub(crate) enum Kind {
 
 /// What the value of an option names. An input or an output is a file, or `-` for a standard stream.
 #[derive(Clone, Copy, PartialEq, Eq)]
-pub(crate) enum Role {
+pub enum Role {
     /// An input of JSON. The value may also be the JSON itself.
     Json,
     /// The same for keys. No output may be their file.
@@ -69,20 +69,15 @@ pub(crate) enum Role {
 
 /// An option: its letter, a name that says what it is for, the value that it takes, and what the value names.
 #[derive(Clone, Copy)]
-pub(crate) struct OptionRow(
-    pub(crate) char,
-    pub(crate) &'static str,
-    pub(crate) Kind,
-    pub(crate) Role,
-);
+pub struct OptionRow(pub char, pub &'static str, pub Kind, pub Role);
 
 /// A command: the two words that select it, and its options.
 #[derive(Clone, Copy)]
-pub(crate) struct CommandRow {
-    pub(crate) command: Command,
-    pub(crate) noun: &'static str,
-    pub(crate) verb: &'static str,
-    pub(crate) options: &'static [OptionRow],
+pub struct CommandRow {
+    pub command: Command,
+    pub noun: &'static str,
+    pub verb: &'static str,
+    pub options: &'static [OptionRow],
 }
 
 /// All commands.
@@ -210,7 +205,8 @@ impl CommandRow {
 }
 
 impl Role {
-    pub(crate) fn is_input(self) -> bool
+    /// Whether it is an input.
+    pub fn is_input(self) -> bool
         ensures { result ≡ is_input self }
     {
         matches!(
@@ -219,14 +215,15 @@ impl Role {
         )
     }
 
-    pub(crate) fn is_output(self) -> bool
+    /// Whether it is an output.
+    pub fn is_output(self) -> bool
         ensures { result ≡ is_output self }
     {
         matches!(self, Role::Output | Role::Secret | Role::MadeKey)
     }
 
     /// Whether it is JSON, which the value may be itself.
-    pub(crate) fn is_json(self) -> bool
+    pub fn is_json(self) -> bool
         ensures { result ≡ is_json self }
     {
         matches!(self, Role::Json | Role::Keys)
@@ -248,7 +245,8 @@ impl Command {
         self.options().iter().find(|option| option.3 == role)
     }
 
-    fn options(self) -> &'static [OptionRow]
+    /// The command's options, in the order of the table.
+    pub fn options(self) -> &'static [OptionRow]
         ensures { map option_entry result.now ≡ (row_of self).options }
     {
         match table().iter().find(|row| row.command == self) {
@@ -259,7 +257,7 @@ impl Command {
 }
 
 /// The command that has these two words.
-pub(crate) fn command_row(noun: &str, verb: &str) -> Option<&'static CommandRow>
+pub fn command_row(noun: &str, verb: &str) -> Option<&'static CommandRow>
     ensures row { option_map (λ row. command_entry row.now) result
         ≡ command_named noun.now verb.now }
     ensures simple { IfSome result (λ row.

@@ -1,7 +1,6 @@
 -- Signing inputs of the candidate pairs of a key and a head, which are consumed from the front.
-use Rattle.std.proofs.Common.{◌≡◌, ℕ, List, [], ◌∷◌, ◌++◌, codes, Bool, true, false, not, ◌&&◌, ◌||◌, Option, Some, None, is_none, Result, Ok, Err, refl, sym, ap, subst, ◌∙◌, append_assoc}
-use Rattle.std.proofs.Math.Bool.{beq}
-use Rattle.std.specs.List.{list_any, list_all}
+use Rattle.std.proofs.Common.{◌≡◌, ℕ, List, [], ◌∷◌, ◌++◌, codes, Bool, true, false, ◌||◌, Option, Some, None, is_none, Result, Ok, Err, refl, sym, ap, subst, ◌∙◌, append_assoc}
+use Rattle.std.specs.List.{list_any}
 use Rattle.prf.specs.HashFunction.{HashFunction}
 use Rattle.prf.specs.Hmac.{hmac}
 use Rattle.octets.specs.declared.refusal.Refusal.{Refusal}
@@ -14,7 +13,7 @@ use Rattle.objects.specs.Jws.{Signature, SignedObject}
 use Rattle.keys.specs.Algorithms.{signature_hash}
 use Rattle.tokens.specs.Signatures.{signature_of}
 use Rattle.tokens.specs.Code.SigningInputs.{InputStart, HoldEach}
-use Rattle.tokens.specs.Verifying.{verifies, are_verified, verified_payload, verifying_by}
+use Rattle.tokens.specs.Verifying.{verifies, verified_by_least, verifying_by_least}
 use Rattle.tokens.specs.Code.Heads.{is_one_of}
 use Rattle.tokens.specs.Code.VerifyingInputs.{starts_by}
 
@@ -59,11 +58,6 @@ made_by_input alg payload signatures h key mac made =
 
 -- ---- over all keys and all signatures of each key
 
--- each key made some signature or, if not all keys are asked, some key made one
-abbrev pub have_signed : Bool → List ℕ → List Signature → List OctetKey → Bool
-have_signed true payload signatures keys = list_all (λ key. list_any (λ s. verifies payload s key) signatures) keys
-have_signed false payload signatures keys = list_any (λ key. list_any (λ s. verifies payload s key) signatures) keys
-
 module _ (payload : List ℕ) where
   none_by_none : (keys : List OctetKey) → list_any (λ key. list_any (λ s. verifies payload s key) []) keys ≡ false
   none_by_none [] = refl
@@ -87,36 +81,17 @@ module _ (payload : List ℕ) where
       ∙ ap (λ rest. (verifies payload s key || list_any (λ s. verifies payload s key) signatures) || rest) (first_or_other s signatures keys)
 
   -- It does not matter whether signatures or keys come first: some key made some signature.
-  by_signature : (signatures : List Signature) (keys : List OctetKey)
+  pub by_signature : (signatures : List Signature) (keys : List OctetKey)
       → list_any (λ s. list_any (verifies payload s) keys) signatures ≡ list_any (λ key. list_any (λ s. verifies payload s key) signatures) keys
   by_signature [] keys = sym (none_by_none keys)
   by_signature (s ∷ signatures) keys = ap (λ rest. list_any (verifies payload s) keys || rest) (by_signature signatures keys) ∙ first_or_other s signatures keys
 
-  pub are_verified_by_keys : (all : Bool) (signatures : List Signature) (keys : List OctetKey)
-      → have_signed all payload signatures keys ≡ are_verified all keys (record { payload = payload; signatures = signatures })
-  are_verified_by_keys true signatures keys = refl
-  are_verified_by_keys false signatures keys = sym (by_signature signatures keys)
-
-  -- If the result of a key differs from `all`, it is the result of all keys.
-  pub decided : (all signed : Bool) (signatures : List Signature) (key : OctetKey) (keys : List OctetKey)
-      → signed ≡ list_any (λ s. verifies payload s key) signatures → not (beq signed all) ≡ true
-      → have_signed all payload signatures (key ∷ keys) ≡ signed
-  decided true true signatures key keys is other = cc other
-  decided true false signatures key keys is other = ap (λ b. b && list_all (λ key. list_any (λ s. verifies payload s key) signatures) keys) (sym is)
-  decided false true signatures key keys is other = ap (λ b. b || list_any (λ key. list_any (λ s. verifies payload s key) signatures) keys) (sym is)
-  decided false false signatures key keys is other = cc other
-
-  -- If no key is left, the result is `all`.
-  pub none_left : (all : Bool) (signatures : List Signature) → have_signed all payload signatures [] ≡ all
-  none_left true signatures = refl
-  none_left false signatures = refl
-
 -- ---- the result
 
 -- The payload is not returned if it is not needed.
-pub unwanted : (all : Bool) (keys : List OctetKey) (o : SignedObject) (payload : List ℕ) (r : Result (Unit {0}) Refusal)
-    → Agrees (λ done. payload) r (verified_payload all keys o)
-    → AgreesUnlessExternal (verifying_by all false keys o) [] r
-unfolding verifying_by
-unwanted all keys o payload (Ok done) h = ap (λ a. a >>= λ p. Ok []) h
-unwanted all keys o payload (Err e) h = λ inside. ap (λ a. a >>= λ p. Ok []) h.0
+pub unwanted : (least : ℕ) (keys : List OctetKey) (o : SignedObject) (payload : List ℕ) (r : Result (Unit {0}) Refusal)
+    → Agrees (λ done. payload) r (verified_by_least least keys o)
+    → AgreesUnlessExternal (verifying_by_least least false keys o) [] r
+unfolding verifying_by_least
+unwanted least keys o payload (Ok done) h = ap (λ a. a >>= λ p. Ok []) h
+unwanted least keys o payload (Err e) h = λ inside. ap (λ a. a >>= λ p. Ok []) h.0

@@ -1,14 +1,13 @@
 -- The first key that made a signature.
-use Rattle.std.proofs.Common.{◌≡◌, ℕ, suc, ◌+◌, List, [], ◌∷◌, map, length, Bool, true, false, not, ◌||◌, cond, ltb, Option, Some, None, is_some, Result, Ok, refl, sym, ap, ◌∙◌, arith, lt-ltb, le-ltb, ltb-true, ltb-false}
+use Rattle.std.proofs.Common.{◌≡◌, ℕ, suc, ◌+◌, List, [], ◌∷◌, map, length, Bool, true, false, not, ◌||◌, cond, ltb, Option, Some, None, is_some, Ok, refl, sym, ap, ◌∙◌, arith, lt-ltb, le-ltb, ltb-true, ltb-false}
 use Rattle.std.proofs.lemmas.List.{length-map}
 use Rattle.std.specs.List.{list_any, position, position_or_len}
-use Rattle.octets.specs.declared.refusal.Refusal.{Refusal}
 use Rattle.octets.specs.declared.refusal.Refusal.TheVariants.{Unsupported, KeyDoesNotFit, NotOpened}
 use Rattle.octets.specs.Outcomes.{◌>>=◌, needs}
 use Rattle.std.specs.Option.{ok_or}
 use Rattle.tokens.specs.Verifying.{FirstVerifies, first_signer, may_verify, verifies, are_verified, verified_payload, verified_by}
 use Rattle.keys.specs.Algorithms.{signature_alg_of}
-use Rattle.tokens.proofs.Verifying.Detached.{are_verified_by_keys}
+use Rattle.tokens.proofs.Verifying.Detached.{by_signature}
 
 -- Mapped elements are found at the same place.
 module _ {A B : Type 0} (p : B → Bool) (q : A → Bool) (f : A → B) (same : (x : A) → q x ≡ p (f x)) where
@@ -61,4 +60,4 @@ unfolding verified_payload verified_by
 first_verifies keys o =
     alike o.payload (list_any (λ s. is_some (signature_alg_of s.alg)) o.signatures) (list_any (λ s. list_any (may_verify s) keys) o.signatures)
     (are_verified false keys o) (first_signer keys o)
-    (sym (are_verified_by_keys o.payload false o.signatures keys) ∙ any_is_found (λ key. list_any (λ s. verifies o.payload s key) o.signatures) keys)
+    (by_signature o.payload o.signatures keys ∙ any_is_found (λ key. list_any (λ s. verifies o.payload s key) o.signatures) keys)

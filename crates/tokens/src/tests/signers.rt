@@ -1,8 +1,10 @@
-//! Sets whose keys each stand for a signer of its own (RFC 2104 section 2). The digests are by Python's `hashlib`.
-use crate::needs_signers;
-use crate::tests::expect_same;
+//! Sets whose keys each stand for a signer of its own (RFC 2104 section 2), and objects that some of them signed. The digests are by
+//! Python's `hashlib`, and the signatures by its `hmac`.
+use crate::tests::{expect_octets, expect_same};
+use crate::{jws_verified_by, jws_verify_detached_least, jws_verify_least, needs_signers};
 use keys::KeySet;
-use octets::Refusal;
+use objects::Jws;
+use octets::{MemoryInput, MemoryOutput, Refusal};
 use std::process::Abort;
 use std::test::Fail;
 
@@ -78,14 +80,8 @@ const SIGNERS: &[(&[&str], usize, bool, &str)] = &[
     ),
 ];
 
-/// Whether each key of this set stands for one of so many signers.
-fn expect_signers<R: Abort + AllocGlobal>(
-    rt: &R,
-    secrets: &[&str],
-    signers: usize,
-    wanted: bool,
-    what: &str,
-) -> Result<(), Fail> {
+/// The text of a set of these keys.
+fn set_of<R: AllocGlobal>(rt: &R, secrets: &[&str]) -> Result<String, Fail> {
     let mut text = String::new(rt.alloc());
     text.push_str("{\"keys\":[")?;
     for (i, secret) in secrets.iter().enumerate() {
@@ -97,6 +93,18 @@ fn expect_signers<R: Abort + AllocGlobal>(
         text.push_str("\"}")?;
     }
     text.push_str("]}")?;
+    Ok(text)
+}
+
+/// Whether each key of this set stands for one of so many signers.
+fn expect_signers<R: Abort + AllocGlobal>(
+    rt: &R,
+    secrets: &[&str],
+    signers: usize,
+    wanted: bool,
+    what: &str,
+) -> Result<(), Fail> {
+    let text = set_of(rt, secrets)?;
     let keys = KeySet::read(rt.alloc(), text.as_bytes(), true)?;
     let answer = if wanted { Ok(()) } else { Err(Refusal::Key) };
     expect_same(rt, needs_signers(rt.alloc(), &keys, signers), answer, what);
@@ -107,6 +115,83 @@ fn expect_signers<R: Abort + AllocGlobal>(
 fn keys_that_sign_alike_are_one_signer(rt: HostRuntime) -> Result<(), Fail> {
     for &(secrets, signers, wanted, what) in SIGNERS {
         expect_signers(&rt, secrets, signers, wanted, what)?;
+    }
+    Ok(())
+}
+
+/// `abc`, signed twice with `A` and once with `C`.
+const TWICE_AND_ONCE: &str =
+    "{\"payload\":\"YWJj\",\"signatures\":[{\"protected\":\"eyJhbGciOiJIUzI1NiJ9\",\"signature\":\"PKCg7mPdQaZd10mTWYSdBXzd_whS3yALgHeSMO4xZac\"},{\"protected\":\"eyJhbGciOiJIUzI1NiIsImtpZCI6ImEifQ\",\"signature\":\"vpE7KFOrjVP5qxEUwSJmiZc52M0d5Rs2i6UVJt5EvLs\"},{\"protected\":\"eyJhbGciOiJIUzI1NiJ9\",\"signature\":\"o3unU8wtMlkDzitEnjf6RvT75Yk1x12oSCL9fXuu6mw\"}]}";
+
+/// The same without its payload.
+const TWICE_AND_ONCE_DETACHED: &str =
+    "{\"signatures\":[{\"protected\":\"eyJhbGciOiJIUzI1NiJ9\",\"signature\":\"PKCg7mPdQaZd10mTWYSdBXzd_whS3yALgHeSMO4xZac\"},{\"protected\":\"eyJhbGciOiJIUzI1NiIsImtpZCI6ImEifQ\",\"signature\":\"vpE7KFOrjVP5qxEUwSJmiZc52M0d5Rs2i6UVJt5EvLs\"},{\"protected\":\"eyJhbGciOiJIUzI1NiJ9\",\"signature\":\"o3unU8wtMlkDzitEnjf6RvT75Yk1x12oSCL9fXuu6mw\"}]}";
+
+/// The `k` of each key of a set, how many of them made one of these signatures, and what the set has.
+const SIGNED: &[(&[&str], usize, &str)] = &[
+    (&[A, C, E], 2, "two of three"),
+    (&[E, A], 1, "the second of two"),
+    (&[C], 1, "the only one"),
+    (&[D, E], 0, "none of two"),
+    (&[A, A], 2, "one that is there twice"),
+];
+
+/// Verifying by at least so many of the keys succeeds exactly if so many made a signature, and at least one.
+fn expect_least<R: Abort + AllocGlobal>(
+    rt: &R,
+    secrets: &[&str],
+    signed: usize,
+    least: usize,
+    what: &str,
+) -> Result<(), Fail> {
+    let text = set_of(rt, secrets)?;
+    let keys = KeySet::read(rt.alloc(), text.as_bytes(), true)?;
+    let enough = least <= signed && signed > 0;
+    let answer = if enough {
+        Ok(())
+    } else {
+        Err(Refusal::NotOpened)
+    };
+    let jws = Jws::read(rt.alloc(), TWICE_AND_ONCE.as_bytes(), None)?;
+    let mut content = MemoryOutput::new(rt.alloc(), 16)?;
+    let verified = jws_verify_least(&keys, &jws, least, Some(&mut content));
+    expect_same(rt, verified, answer, what);
+    let payload: &[u8] = if enough { b"abc" } else { b"" };
+    expect_octets(rt, content.octets(), payload, what);
+    let text = TWICE_AND_ONCE_DETACHED.as_bytes();
+    let jws = Jws::read(rt.alloc(), text, Some(Vec::new(rt.alloc())))?;
+    let mut content = MemoryInput::new(b"abc", 2);
+    let verified = jws_verify_detached_least(rt.alloc(), &keys, &jws, &mut content, least);
+    expect_same(rt, verified, answer, what);
+    Ok(())
+}
+
+#[test]
+fn signers_are_counted_by_their_keys(rt: HostRuntime) -> Result<(), Fail> {
+    for &(secrets, signed, what) in SIGNED {
+        for least in 0..5 {
+            expect_least(&rt, secrets, signed, least, what)?;
+        }
+    }
+    Ok(())
+}
+
+/// The `k` of each key of a set, and the place of the first of them that signed `TWICE_AND_ONCE`.
+const FIRST_SIGNERS: &[(&[&str], Result<usize, Refusal>)] = &[
+    (&[A, C], Ok(0)),
+    (&[C, A], Ok(0)),
+    (&[E, C, A, C], Ok(1)),
+    (&[E, D, A, E], Ok(2)),
+    (&[E, D], Err(Refusal::NotOpened)),
+];
+
+#[test]
+fn the_signer_is_the_first_key_that_signed(rt: HostRuntime) -> Result<(), Fail> {
+    let jws = Jws::read(rt.alloc(), TWICE_AND_ONCE.as_bytes(), None)?;
+    for &(secrets, wanted) in FIRST_SIGNERS {
+        let text = set_of(&rt, secrets)?;
+        let keys = KeySet::read(rt.alloc(), text.as_bytes(), true)?;
+        expect_same(&rt, jws_verified_by(&keys, &jws), wanted, secrets.len());
     }
     Ok(())
 }

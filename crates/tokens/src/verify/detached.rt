@@ -11,13 +11,14 @@ ghost use Rattle.keys.specs.Code.Views.{key_view};
 ghost use Rattle.objects.specs.HandedIn.{with_payload};
 ghost use Rattle.objects.specs.Code.Views.{jws_view, signature_view};
 ghost use Rattle.tokens.specs.Code.SigningInputs.{InputStart, HoldEach};
-ghost use Rattle.tokens.specs.Verifying.{verifying_by, are_verified, verifies};
+ghost use Rattle.tokens.specs.Verifying.{verifying_by, verifying_by_least, have_signed, verifies};
 ghost use Rattle.tokens.specs.Code.Heads.{covers, has_made_alike as made_alike_by, pointed_views};
 ghost use Rattle.tokens.specs.Code.VerifyingInputs.{starts_for_pair, starts_for_key, starts_for_keys};
 
 use crate::signing_input::{HmacInput, SigningInput, take_content};
 use crate::verify::heads::{heads_of, is_one_of};
-use crate::verify::{candidate_alg, verdict};
+use crate::verify::tally::Tally;
+use crate::verify::{candidate_alg, least_of, verdict};
 use keys::{Key, KeySet};
 use objects::{Jws, Signature};
 use octets::{Input, Refusal};
@@ -53,13 +54,41 @@ pub fn jws_verify_detached<I: Input>(
     ensures same_source { I.source content.new ≡ I.source content.old }
     ensures faults { TellsFaults (counts I.failures content.old content.new ∷ []) [] result }
 {
+    jws_verify_detached_least(alloc, keys, jws, content, least_of(all, keys))
+}
+
+/// Verifies the object as `jws_verify_detached` does, but at least `least` of the keys must each have made a signature, and at least one.
+/// `needs_signers` says whether each key stands for a signer of its own.
+///
+/// Refuses as `jws_verify_detached` does, with `NotOpened` if fewer of the keys made a signature, and so if there are fewer keys.
+pub fn jws_verify_detached_least<I: Input>(
+    alloc: Global,
+    keys: &KeySet,
+    jws: &Jws<'_>,
+    content: &mut I,
+    least: usize,
+) -> Result<(), Refusal>
+    requires { IsFinite (I.remaining content.old) }
+    ensures answer { (payload : List ℕ)
+        → IsPossibleInput (observed I.consumed I.is_at_end content.old content.new) payload
+        → AgreesUnlessExternal (verifying_by_least least false keys.now (with_payload payload (jws_view jws.now))) [] result }
+
+    // Nothing is reported of the object before the content is at its end.
+    ensures ends { OnOk result (IsTrue (I.is_at_end content.new)) }
+    ensures ends_first { IfErr result (λ refusal. is_external refusal ≡ false → IsTrue (I.is_at_end content.new)) }
+
+    // All memory is allocated before the content is touched.
+    ensures memory_first { IfErr result (λ refusal. refusal ≡ Refusal.Memory → content.new ≡ content.old) }
+    ensures same_source { I.source content.new ≡ I.source content.old }
+    ensures faults { TellsFaults (counts I.failures content.old content.new ∷ []) [] result }
+{
     let keys = keys.keys();
     let signatures = jws.signatures();
     let heads = heads_of(signatures);
     let heads = heads.list();
     let mut inputs = candidate_inputs(alloc, keys, heads)?;
     take_content(&mut inputs, content)?;
-    let are_right = are_signed(all, keys, heads, signatures, inputs);
+    let are_right = are_signed(least, keys, heads, signatures, inputs);
     verdict(keys, signatures, are_right)
 }
 
@@ -114,10 +143,10 @@ fn push_input(inputs: &mut Vec<HmacInput>, key: &Key, head: &Signature) -> Resul
     }
 }
 
-/// Each key made a signature, where that is asked for, or else some key made some. The heads cover the signatures. The inputs are those of
+/// At least so many of the keys, and at least one, made a signature. The heads cover the signatures. The inputs are those of
 /// `candidate_inputs`, and have taken the payload.
 fn are_signed<S: SigningInput>(
-    all: bool,
+    least: usize,
     keys: &[Key],
     heads: &[&Signature],
     signatures: &[Signature],
@@ -125,16 +154,17 @@ fn are_signed<S: SigningInput>(
 ) -> bool
     requires { covers (pointed_views heads.now) (map signature_view signatures.now) ≡ true }
     ensures { (payload : List ℕ) → HoldEach S.has_taken inputs.items (starts_for_keys (pointed_views heads.now) (map key_view keys.now)) (base64url payload)
-        → result ≡ are_verified all (map key_view keys.now) (record { payload = payload; signatures = map signature_view signatures.now }) }
+        → result ≡ have_signed least (map key_view keys.now) (record { payload = payload; signatures = map signature_view signatures.now }) }
 {
     let mut inputs = inputs.into_iter();
+    let mut tally = Tally::new(least, keys.len());
     for key in keys {
         let signed = has_signed_next(key, heads, signatures, &mut inputs);
-        if signed != all {
-            return signed;
+        if let Some(enough) = tally.count(signed) {
+            return enough;
         }
     }
-    all
+    false
 }
 
 /// Whether the key made one of the signatures, which the heads cover. Takes the next signing inputs, which are those of the key.

@@ -1,40 +1,32 @@
-use Rattle.std.proofs.Common.{◌≡◌, ◌∙◌, true, Ok, refl, sym, ap, rules}
-use Rattle.octets.specs.Devices.{appended}
-use Rattle.octets.proofs.Lemmas.{AppendsPrefixOf-kept, at_refusal, agrees_last, appended-append}
+use Rattle.std.proofs.Common.{false, true}
 use Rattle.objects.specs.Code.Views.{jws_view}
-use Rattle.tokens.specs.Verifying.{verifying_by}
+use Rattle.tokens.proofs.Verifying.Detached.{unwanted}
+use Rattle.tokens.proofs.Verifying.Least.{verifying_alike}
 use Rattle.tokens.proofs.verify.jws_verify.Goals as goal
 
-pub returns-in_err-verified-in-Some-clause-held_back : goal.returns-in_err-verified-in-Some-clause-held_back
-returns-in_err-verified-in-Some-clause-held_back g c = rw (c.in-Some.is) (search rules)
+pub returns-in-None-clause-answer : goal.returns-in-None-clause-answer
+returns-in-None-clause-answer g c =
+    let o = jws_view c.args.jws.now in
+    rw (c.in-None.is, verifying_alike c.args.all false c.args.keys.now o, ← c.least_of-least.ensures)
+    (unwanted c.least_of-least.result c.args.keys.now o o.payload c.verified.result c.verified.ensures.exact)
 
-pub returns-in_err-verified-in-Some-clause-faults : goal.returns-in_err-verified-in-Some-clause-faults
-returns-in_err-verified-in-Some-clause-faults g c = rw (c.in-Some.is) (search rules)
+pub returns-in-Some-clause-answer : goal.returns-in-Some-clause-answer
+returns-in-Some-clause-answer g c =
+    rw (c.in-Some.is, verifying_alike c.args.all true c.args.keys.now (jws_view c.args.jws.now), ← c.least_of-least.ensures) c.jws_verify_least.ensures.answer
 
-pub returns-in_err-verified-in-Some-clause-beginning : goal.returns-in_err-verified-in-Some-clause-beginning
-returns-in_err-verified-in-Some-clause-beginning g c = rw (c.in-Some.is) (at_refusal c.from_residual.result (AppendsPrefixOf-kept _ _))
+pub returns-in-Some-clause-held_back : goal.returns-in-Some-clause-held_back
+returns-in-Some-clause-held_back g c = rw (c.in-Some.is) c.jws_verify_least.ensures.held_back
 
-pub returns-in_ok-verified-in-Some-clause-answer : goal.returns-in_ok-verified-in-Some-clause-answer
-unfolding verifying_by
-returns-in_ok-verified-in-Some-clause-answer g c =
-    let old = g.O.Output.written c.in-Some.out.now in
-    let payload = (jws_view c.args.jws.now).payload in
-    let is : verifying_by c.args.all true c.args.keys.now (jws_view c.args.jws.now) ≡ Ok payload = rw (c.in_ok-verified-in-Some.ensures.exact) refl in
-    rw (c.in-Some.is) (agrees_last _ _ c.write_payload.result c.write_payload.ensures.all c.write_payload.ensures.cause
-    (λ all. is ∙ ap Ok (sym (ap (appended old) all ∙ appended-append old payload))))
+pub returns-in-Some-clause-beginning : goal.returns-in-Some-clause-beginning
+returns-in-Some-clause-beginning g c =
+    rw (c.in-Some.is, verifying_alike c.args.all true c.args.keys.now (jws_view c.args.jws.now), ← c.least_of-least.ensures)
+    c.jws_verify_least.ensures.beginning
 
-pub returns-in_ok-verified-in-Some-clause-beginning : goal.returns-in_ok-verified-in-Some-clause-beginning
-unfolding verifying_by
-returns-in_ok-verified-in-Some-clause-beginning g c = rw (c.in-Some.is) (search rules)
+pub returns-in-Some-clause-finished : goal.returns-in-Some-clause-finished
+returns-in-Some-clause-finished g c = rw (c.in-Some.is) c.jws_verify_least.ensures.finished
 
-pub returns-in_ok-verified-in-Some-clause-finished : goal.returns-in_ok-verified-in-Some-clause-finished
-returns-in_ok-verified-in-Some-clause-finished g c = rw (c.in-Some.is) c.write_payload.ensures.finished
+pub returns-in-Some-clause-unfinished : goal.returns-in-Some-clause-unfinished
+returns-in-Some-clause-unfinished g c = rw (c.in-Some.is) c.jws_verify_least.ensures.unfinished
 
-pub returns-in_ok-verified-in-Some-clause-faults : goal.returns-in_ok-verified-in-Some-clause-faults
-returns-in_ok-verified-in-Some-clause-faults g c = rw (c.in-Some.is) (search rules)
-
-pub returns-in_err-verified-in-Some-clause-unfinished : goal.returns-in_err-verified-in-Some-clause-unfinished
-returns-in_err-verified-in-Some-clause-unfinished g c = rw (c.in-Some.is) (at_refusal c.from_residual.result refl)
-
-pub returns-in_ok-verified-in-Some-clause-unfinished : goal.returns-in_ok-verified-in-Some-clause-unfinished
-returns-in_ok-verified-in-Some-clause-unfinished g c = rw (c.in-Some.is) c.write_payload.ensures.unfinished
+pub returns-in-Some-clause-faults : goal.returns-in-Some-clause-faults
+returns-in-Some-clause-faults g c = rw (c.in-Some.is) c.jws_verify_least.ensures.faults

@@ -5,4 +5,4 @@ pub returns-in_err-text : goal.returns-in_err-text
 returns-in_err-text g c = returned _ c.in_err-text.ensures c.from_residual.ensures.1
 
 pub returns : goal.returns
-returns g c = went_on_at _ c.as_str.ensures.value c.in_ok-text.ensures c.write_out.ensures
+returns g c = went_on_at _ c.as_bytes.ensures.value c.in_ok-text.ensures c.write_out.ensures

@@ -1,0 +1,8 @@
+use Rattle.tools.proofs.Doing.{returned, went_on_at}
+use Rattle.tools.proofs.look_requests.show_command.Goals as goal
+
+pub returns-in_err-text : goal.returns-in_err-text
+returns-in_err-text g c = returned _ c.in_err-text.ensures c.from_residual.ensures.1
+
+pub returns : goal.returns
+returns g c = went_on_at _ c.deref.ensures.value c.in_ok-text.ensures c.write_out.ensures
