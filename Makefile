@@ -73,7 +73,7 @@ vectors:
 library:
 	@scripts/library
 
-# Proves and builds the library for C, and tries it from C, C++, Python, Rust, Go and Node.js, with the inputs of `make hostile` too, from SEED.
+# Proves and builds the library for C, and tries it from C, C++, Python, Rust, Go, Node.js, Lua and Java, with the inputs of `make hostile` too, from SEED.
 # It also tries the packages of these languages, and the web services of examples/.
 bindings:
 	@scripts/bindings $(SEED)
