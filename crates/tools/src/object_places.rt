@@ -9,11 +9,14 @@ ghost use Rattle.tools.specs.Printing.{printed};
 use crate::found_place::{FoundPlace, add_where_line, first_so, in_object};
 use crate::header_places::in_two_headers;
 use crate::item_places::{
-    ItemKind, ReadRecipient, ReadSignature, header_refusal, listed_place, member_refusal,
-    protected_at, protected_of, protected_refusal, read_header, recipient_place, share_if_read,
-    signature_place, text_refusal,
+    ItemKind, ReadRecipient, ReadSignature, listed_place, recipient_place, share_if_read,
+    signature_place,
 };
 use crate::object_lines::{after_dot, before_dot};
+use crate::object_members::{
+    header_refusal, member_refusal, protected_at, protected_of, protected_refusal, read_header,
+    text_refusal,
+};
 use crate::shared_headers::SharedHeaders;
 use crate::text_kind::TextKind;
 use octets::Refusal;

@@ -3,7 +3,7 @@ use Rattle.serde_json.specs.View.{view}
 use Rattle.octets.specs.Code.Results.{Agrees}
 use Rattle.objects.specs.Jwe.{no_recipient_at, encoded_recipient}
 use Rattle.objects.specs.Texts.{text_at}
-use Rattle.tools.proofs.item_places.no_recipient_at.Goals as goal
+use Rattle.tools.proofs.object_members.no_recipient_at.Goals as goal
 
 pub returns-in_err-encrypted_key : goal.returns-in_err-encrypted_key
 unfolding no_recipient_at encoded_recipient

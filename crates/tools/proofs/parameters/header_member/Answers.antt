@@ -3,7 +3,7 @@ use Rattle.serde_json.specs.Find.{get_member}
 use Rattle.serde_json.specs.View.{view}
 use Rattle.serde_json.proofs.Views.{view_of_ref, view-lookup}
 use Rattle.objects.specs.Code.Views.{part_view}
-use Rattle.tools.proofs.header_places.header_member.Goals as goal
+use Rattle.tools.proofs.parameters.header_member.Goals as goal
 
 pub returns : goal.returns
 returns c =
