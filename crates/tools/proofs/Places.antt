@@ -1,5 +1,5 @@
 -- The first of places that is refused so.
-use Rattle.std.proofs.Common.{◌≡◌, ◌∙◌, ℕ, ◌+◌, ◌<◌, ◌≤◌, Bool, true, false, List, [], ◌∷◌, ◌++◌, length, ◌==◌, not, drop, get_or, map, Option, Some, None, option_map, Result, Ok, Err, if◌then◌else◌, String, Global, refl, ap, sym}
+use Rattle.std.proofs.Common.{◌≡◌, ◌∙◌, ℕ, ◌+◌, ◌<◌, ◌≤◌, Bool, true, false, List, [], ◌∷◌, ◌++◌, length, ◌==◌, not, drop, get_or, map, Option, Some, None, option_map, Result, Ok, Err, if◌then◌else◌, refl, ap, sym}
 use Rattle.std.proofs.Math.Dec.{eqb-suc-zero}
 use Rattle.std.proofs.lemmas.List.{at_drop_all}
 use Rattle.std.specs.Option.{option_or}

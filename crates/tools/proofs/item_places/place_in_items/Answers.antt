@@ -1,10 +1,10 @@
-use Rattle.std.proofs.Common.{◌≡◌, ◌∙◌, ◌+◌, ◌++◌, List, ℕ, Option, Some, None, drop, option_map, ap, sym}
+use Rattle.std.proofs.Common.{◌≡◌, ◌∙◌, ◌+◌, ◌++◌, Some, None, drop, option_map, ap, sym}
 use Rattle.std.specs.Option.{option_or}
 use Rattle.serde_json.specs.View.{items_view, view}
 use Rattle.tools.specs.ItemPlaces.{each_item_places, item_name, item_places, item_text}
 use Rattle.tools.specs.PlaceViews.{kind_view}
 use Rattle.tools.specs.Places.{first_so}
-use Rattle.tools.proofs.Places.{first_of_none, is_none, next_item, none_are_left}
+use Rattle.tools.proofs.Places.{is_none, next_item, none_are_left}
 use Rattle.tools.proofs.item_places.place_in_items.Goals as goal
 
 pub returns-in-Some : goal.returns-in-Some
