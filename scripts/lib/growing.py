@@ -329,10 +329,11 @@ def sealed_by_cbc(length, data):
 
 def encrypted(form="compact", ciphertext=64, protected="", unprotected="", header_members="", where="protected", beside="", within="", aad=0, iv="right",
               tag="right", alg="dir", enc="A128CBC-HS256", recipients=1, right="first", wrong=40, alike=0, p2s=0, count=1, key="", other_key="",
-              detached=0, bad=""):
+              detached=0, bad="", last_members=""):
     """The files for `jwe dec` and `jwe fmt`: an encrypted object, keys of which the last is right, and the ciphertext if it is detached.
 
-    The object, and each recipient and header have the listed members (`beside`, `within`, `protected`, `unprotected`, `header_members`).
+    The object, and each recipient and header have the listed members (`beside`, `within`, `protected`, `unprotected`, `header_members`), and
+    the header of the last recipient those of `last_members` too.
     `where` is the header with the `alg`; the protected header has the `enc`. Several algorithms have `/` between them, and the
     recipients have them in turn. By A128KW `right` says which encrypted keys are right. The
     others have `wrong` octets, and differ unless they are `alike`. With `p2s` each recipient has a salt of its own of so many octets.
@@ -353,7 +354,8 @@ def encrypted(form="compact", ciphertext=64, protected="", unprotected="", heade
     for at in range(recipients):
         encrypted_key = b"" if alg == "dir" else b64(WRAPPED_CEK if at in correct else guesses[at])
         named = {"alg": literal(algs[at % len(algs)])}
-        own = object_text(header_members, p2s=optional(b64(salts[at])), **(named if where == "header" else {}))
+        listed = f"{header_members},{last_members}" if at == recipients - 1 else header_members
+        own = object_text(listed, p2s=optional(b64(salts[at])), **(named if where == "header" else {}))
         items.append({"header": unless_empty(own), **{name: optional(part) for name, part in spoil(bad, encrypted_key=encrypted_key).items()}})
     outer = {name: optional(part) for name, part in parts.items()} | {"unprotected": unless_empty(shared)}
     compact = [parts["protected"], encrypted_key, parts["iv"], parts["ciphertext"], parts["tag"]]

@@ -13,6 +13,9 @@ pub mod ChangeLaws
 pub mod ReportLaws
 pub mod LookLaws
 pub mod LookedKeys
+-- the first of the places of an object
+pub mod Places
+pub mod ShownPlaces
 -- tests of the elements of a list, seen by a view
 pub mod Entries
 pub mod AsAsked

@@ -29,6 +29,10 @@ pub mod Printing
 pub mod ShownValues
 pub mod LookedKeys
 pub mod LookedObjects
+-- where jose refuses an object
+pub mod Places
+pub mod ItemPlaces
+pub mod ObjectPlaces
 pub mod Looks
 pub mod LookCalls
 pub mod LookWords
@@ -45,4 +49,5 @@ pub mod Disks
 -- calls of the code; no answer rests on this page
 pub mod Code
 pub mod SetViews
+pub mod PlaceViews
 pub mod CommandViews

@@ -1,6 +1,6 @@
--- What jose-look never shows.
-use Rattle.std.specs.Prelude.{◌≡◌, ℕ, true, List, Option, if◌then◌else◌, Ok, Err}
-use Rattle.std.specs.List.{list_all}
+-- What jose-look never shows, and where it says that jose refuses an object.
+use Rattle.std.specs.Prelude.{◌≡◌, ℕ, true, List, Option, Some, if◌then◌else◌, Ok, Err}
+use Rattle.std.specs.List.{Contains, list_all}
 use Rattle.serde_json.specs.Data.{Data, null, boolean, number, string, array, object, Items, no_items, item, Members, no_members, member}
 use Rattle.octets.specs.declared.refusal.Refusal.{Refusal}
 use Rattle.keys.specs.Json.{json_value}
@@ -9,6 +9,7 @@ use Rattle.objects.specs.Texts.{is_json_form}
 use Rattle.tools.specs.LookCalls.{file_text}
 use Rattle.tools.specs.LookedObjects.{object_line, shown_header}
 use Rattle.tools.specs.Looks.{look_lines}
+use Rattle.tools.specs.Places.{Place, first_so}
 use Rattle.tools.specs.Printing.{is_shown}
 use Rattle.tools.specs.ShownValues.{secret_names, shown, shown_text}
 
@@ -57,3 +58,9 @@ TextsHideSecrets = (f : Data → Data) (text other : List ℕ) (value differing 
 abbrev pub DamagedTextsAreHidden : Type 0
 DamagedTextsAreHidden = (name text other : List ℕ) (refusal : Refusal) → is_json_form text ≡ true → is_json_form other ≡ true
     → json_value text ≡ Err refusal → json_value other ≡ Err refusal → look_lines name text ≡ look_lines name other
+
+-- ---- places (docs/SPECIFICATION.md "Tools")
+
+-- The place that is shown is one of the places, and it alone is refused as the first line says.
+abbrev pub ShownPlacesAreRefused : Type 0
+ShownPlacesAreRefused = (so : Refusal) (places : List Place) (text : List ℕ) → first_so so places ≡ Some text → Contains places (text, Some so)

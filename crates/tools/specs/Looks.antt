@@ -18,6 +18,8 @@ use Rattle.tools.specs.declared.text_kind.TextKind.{TextKind}
 use Rattle.tools.specs.declared.text_kind.TextKind.TheVariants as kind
 use Rattle.tools.specs.LookedKeys.{character_hint, key_lines}
 use Rattle.tools.specs.LookedObjects.{cost_lines, object_line, object_lines, part_lines}
+use Rattle.tools.specs.ObjectPlaces.{part_places, value_places}
+use Rattle.tools.specs.Places.{where_lines}
 
 -- ---- kinds of texts (docs/SPECIFICATION.md "Tools")
 
@@ -107,9 +109,14 @@ value_lines kind.Encrypted value = object_lines (codes "recipients") value
 value_lines kind.EncryptedDetached value = object_lines (codes "recipients") value
 value_lines other value = object_line value ∷ []
 
+-- all lines of a JSON object of this kind; what a password costs if it is accepted, and where it is refused if not
+abbrev pub json_lines_by : TextKind → List ℕ → List ℕ → Data → List (List ℕ)
+json_lines_by kind name text value = title name kind (refusal_by kind text)
+    ∷ (value_lines kind value ++ cost_lines kind text ++ where_lines (refusal_by kind text) (value_places kind value))
+
 abbrev pub json_lines : List ℕ → List ℕ → Result Data Refusal → List (List ℕ)
 json_lines name text (Err refusal) = title name kind.NoJson (Some refusal) ∷ []
-json_lines name text (Ok value) = title name (kind_of value) (refusal_by (kind_of value) text) ∷ (value_lines (kind_of value) value ++ cost_lines (kind_of value) text)
+json_lines name text (Ok value) = json_lines_by (kind_of value) name text value
 
 -- the lines after the first of a text of this kind that is in no JSON form
 abbrev pub parts_lines : TextKind → List ℕ → List (List ℕ)
@@ -121,7 +128,8 @@ abbrev pub titled_lines : List ℕ → TextKind → Option Refusal → List ℕ 
 titled_lines name kind refusal part = (title name kind refusal ++ hint kind refusal part) ∷ parts_lines kind part
 
 abbrev pub compact_lines_by : TextKind → List ℕ → List ℕ → List ℕ → List (List ℕ)
-compact_lines_by kind name text part = titled_lines name kind (refusal_by kind text) part ++ cost_lines kind text
+compact_lines_by kind name text part =
+    titled_lines name kind (refusal_by kind text) part ++ cost_lines kind text ++ where_lines (refusal_by kind text) (part_places kind part)
 
 -- The part is the text without its line end.
 abbrev pub compact_lines : List ℕ → List ℕ → List ℕ → List (List ℕ)

@@ -1,7 +1,7 @@
 //! Laws of the answers of the tools. Each law is the contract of a function that does nothing.
 ghost use Rattle.tools.specs.Headline.{EachKeyVerifies, FewerAreEnough, SoManyKeysVerify, OtherNumberIsRefused, AlikeKeysAreRefused, KeyTwiceIsRefused};
 ghost use Rattle.tools.specs.ChangeLaws.{AddsAreWhole, RefusalsDeleteWhatIsNew, RefusalsReplaceNothing, RemovalsAreWhole};
-ghost use Rattle.tools.specs.LookLaws.{DamagedTextsAreHidden, LooksArePrinted, SecretsAreHidden, TextsHideSecrets};
+ghost use Rattle.tools.specs.LookLaws.{DamagedTextsAreHidden, LooksArePrinted, SecretsAreHidden, ShownPlacesAreRefused, TextsHideSecrets};
 ghost use Rattle.tools.specs.SetHeadline.{AddedKeysReadBack, JoinedAloneIsTheSame, JoinedKeysReadBack, LeftKeysReadBack};
 
 use keys::laws::{
@@ -79,4 +79,9 @@ pub fn secrets_are_hidden()
     ensures values { SecretsAreHidden }
     ensures texts { TextsHideSecrets }
     ensures damaged { DamagedTextsAreHidden }
+{}
+
+/// Where `jose` refuses an object: the place that is shown is one of the object's places, and it alone is refused as the first line says.
+pub fn shown_places_are_refused()
+    ensures { ShownPlacesAreRefused }
 {}

@@ -7,12 +7,15 @@ ghost use Rattle.octets.specs.LineEnds.{without_line_end};
 ghost use Rattle.keys.specs.Json.{json_value};
 ghost use Rattle.objects.specs.Texts.{is_dot, is_json_form as has_json_form, is_json_space as is_space};
 ghost use Rattle.tools.specs.LookedObjects.{cost_lines};
-ghost use Rattle.tools.specs.Looks.{begins_with_bearer, compact_lines, compact_lines_by, hint, json_lines, look_lines, parts_lines, refused_text, text_hint, title, titled_lines, value_lines};
+ghost use Rattle.tools.specs.ObjectPlaces.{value_places};
+ghost use Rattle.tools.specs.Places.{where_lines};
+ghost use Rattle.tools.specs.Looks.{begins_with_bearer, compact_lines, compact_lines_by, hint, json_lines, json_lines_by, look_lines, refusal_by, parts_lines, refused_text, text_hint, title, titled_lines, value_lines};
 ghost use Rattle.tools.specs.Printing.{printed};
 
 use crate::iterations::add_cost_lines;
 use crate::looked_keys::{add_key_lines, character_hint, is_json_space};
 use crate::object_lines::{add_object_line, add_object_lines, add_part_lines};
+use crate::object_places::{add_part_place, add_value_place};
 use crate::printing::{add, add_both, add_line};
 use crate::text_kind::{TextKind, refusal_by};
 use crate::tool_cause::unless_memory;
@@ -74,7 +77,6 @@ fn add_json_look(
 }
 
 /// Adds the lines of a file of this name and text, whose value this is.
-#[tactic(auto, using(crate::proofs::Printable::printed_then))]
 fn add_value_look(
     alloc: Global,
     out: &mut Vec<u8>,
@@ -86,28 +88,46 @@ fn add_value_look(
     requires no_float { has_float (view value.now) ≡ false }
     ensures { OnOk result (out.new.items ≡ out.old.items ++ printed (json_lines name.now text.now (Ok (view value.now)))) }
 {
-    let kind = TextKind::of(value);
+    add_kind_look(alloc, out, TextKind::of(value), name, text, value)
+}
+
+/// So it does, if the value is of this kind.
+#[tactic(auto, using(crate::proofs::Printable::printed_then))]
+fn add_kind_look(
+    alloc: Global,
+    out: &mut Vec<u8>,
+    kind: TextKind,
+    name: &str,
+    text: &[u8],
+    value: &Value,
+) -> Result<(), AllocError>
+    requires read { json_value text.now ≡ Ok (view value.now) }
+    requires no_float { has_float (view value.now) ≡ false }
+    ensures { OnOk result (out.new.items ≡ out.old.items ++ printed (json_lines_by kind name.now text.now (view value.now))) }
+{
     let refusal = refusal_by(alloc, kind, text)?;
     let line = title(alloc, name, kind, refusal)?;
     add_line(out, &line)?;
-    add_later_lines(alloc, out, kind, text, value)
+    add_later_lines(alloc, out, kind, text, value, refusal)
 }
 
-/// Adds the lines after the first, and what a password costs.
-#[tactic(auto, using(crate::proofs::Printable::printed_then))]
+/// Adds the lines after the first of a value that is refused so, if it is refused.
 fn add_later_lines(
     alloc: Global,
     out: &mut Vec<u8>,
     kind: TextKind,
     text: &[u8],
     value: &Value,
+    refusal: Option<Refusal>,
 ) -> Result<(), AllocError>
     requires read { json_value text.now ≡ Ok (view value.now) }
     requires no_float { has_float (view value.now) ≡ false }
-    ensures { OnOk result (out.new.items ≡ out.old.items ++ printed (value_lines kind (view value.now) ++ cost_lines kind text.now)) }
+    ensures { OnOk result (out.new.items ≡ out.old.items
+        ++ printed (value_lines kind (view value.now) ++ cost_lines kind text.now ++ where_lines refusal (value_places kind (view value.now)))) }
 {
     add_value_lines(alloc, out, kind, text, value)?;
-    add_cost_lines(alloc, out, kind, text)
+    add_cost_lines(alloc, out, kind, text)?;
+    add_value_place(alloc, out, kind, value, refusal)
 }
 
 /// Adds the lines of the value.
@@ -162,7 +182,8 @@ fn add_compact_by(
 {
     let refusal = refusal_by(alloc, kind, text)?;
     add_titled_lines(alloc, out, name, part, kind, refusal)?;
-    add_cost_lines(alloc, out, kind, text)
+    add_cost_lines(alloc, out, kind, text)?;
+    add_part_place(alloc, out, kind, part, refusal)
 }
 
 /// Adds the lines of a file of this name and kind, which is in no JSON form. The part is the text without its line end.

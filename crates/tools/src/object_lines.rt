@@ -6,6 +6,7 @@ ghost use Rattle.serde_json.specs.View.{view, items_view};
 ghost use Rattle.serde_json.specs.Written.{has_float};
 ghost use Rattle.objects.specs.Texts.{is_dot};
 ghost use Rattle.tools.specs.LookedObjects.{before_dot, count_line, count_or_one, each_header_line, header_line, header_lines, header_value, items_at, object_line, object_lines, own_header_line, part_lines, shown_header};
+ghost use Rattle.tools.specs.ObjectPlaces.{first_part, later_parts};
 ghost use Rattle.tools.specs.Printing.{printed};
 
 use crate::looked_keys::add_number;
@@ -164,12 +165,22 @@ pub(crate) fn add_part_lines(
 }
 
 /// What is before the first dot.
-fn before_dot(text: &[u8]) -> &[u8]
-    ensures { result.now ≡ before_dot (position is_dot text.now) text.now }
+pub(crate) fn before_dot(text: &[u8]) -> &[u8]
+    ensures { result.now ≡ first_part text.now }
 {
     match first_dot(text) {
         None => &[],
         Some(dot) => &text[..dot],
+    }
+}
+
+/// What is after the first dot.
+pub(crate) fn after_dot(text: &[u8]) -> &[u8]
+    ensures { result.now ≡ later_parts text.now }
+{
+    match first_dot(text) {
+        None => &[],
+        Some(dot) => &text[dot + 1..],
     }
 }
 
