@@ -8,8 +8,8 @@ import (
 	"strings"
 )
 
-// Keys is one key or a set of keys that was checked when it was read: in each error of its methods that is not a Fault, the token is at fault,
-// or what is signed or encrypted. Each call reads its text again. Any number of goroutines may use it at once.
+// Keys is one key or a set of keys that was checked when it was read. If each of them may verify (Uses), the token is at fault in each error of
+// Verify that is not a Fault. The same holds for Decrypt. Each call reads its text again. Any number of goroutines may use it at once.
 //
 // To verify and to decrypt, a key of a set that may not is skipped, and each token that it signed is ErrNotOpened. Len is the number of the valid
 // keys, and Good is such a key. A valid key need not be usable: one of 5 bytes for HS256 verifies nothing. CanSign, CanVerify, CanEncrypt and
@@ -136,57 +136,65 @@ func (keys Keys) Format(state fmt.State, _ rune) {
 	fmt.Fprintf(state, "lakhdzeva.Keys(%d)", len(keys.thumbprints))
 }
 
+// known is the text, or that of no key for a Keys that NewKeys did not make: each call of such a Keys is ErrKey.
+func (keys *Keys) known() []byte {
+	if len(keys.text) == 0 {
+		return []byte("{}")
+	}
+	return keys.text
+}
+
 // Sign is the function Sign with these keys.
 func (keys *Keys) Sign(template []byte, form Form, payload []byte) ([]byte, error) {
-	return Sign(keys.text, template, form, payload)
+	return Sign(keys.known(), template, form, payload)
 }
 
 // SignDetached is the function SignDetached with these keys.
 func (keys *Keys) SignDetached(template []byte, form Form, payload []byte) ([]byte, error) {
-	return SignDetached(keys.text, template, form, payload)
+	return SignDetached(keys.known(), template, form, payload)
 }
 
 // Verify is the function Verify with these keys, one of which must have signed the object.
 func (keys *Keys) Verify(object []byte) ([]byte, error) {
-	return Verify(keys.text, object, One)
+	return Verify(keys.known(), object, One)
 }
 
 // VerifySigner is the function VerifySigner with these keys.
 func (keys *Keys) VerifySigner(object []byte) (payload []byte, signer int, err error) {
-	return VerifySigner(keys.text, object)
+	return VerifySigner(keys.known(), object)
 }
 
 // VerifyDetached is the function VerifyDetached with these keys, one of which must have signed the object.
 func (keys *Keys) VerifyDetached(object, payload []byte) error {
-	return VerifyDetached(keys.text, object, One, payload)
+	return VerifyDetached(keys.known(), object, One, payload)
 }
 
 // VerifyAll is the function VerifyAll with these keys.
 func (keys *Keys) VerifyAll(signers int, object []byte) ([]byte, error) {
-	return VerifyAll(keys.text, signers, object)
+	return VerifyAll(keys.known(), signers, object)
 }
 
 // VerifyAllDetached is the function VerifyAllDetached with these keys.
 func (keys *Keys) VerifyAllDetached(signers int, object, payload []byte) error {
-	return VerifyAllDetached(keys.text, signers, object, payload)
+	return VerifyAllDetached(keys.known(), signers, object, payload)
 }
 
 // Encrypt is the function Encrypt with these keys.
 func (keys *Keys) Encrypt(template []byte, form Form, plaintext []byte) ([]byte, error) {
-	return Encrypt(keys.text, template, form, plaintext)
+	return Encrypt(keys.known(), template, form, plaintext)
 }
 
 // EncryptDetached is the function EncryptDetached with these keys.
 func (keys *Keys) EncryptDetached(template []byte, form Form, plaintext []byte) (object, ciphertext []byte, err error) {
-	return EncryptDetached(keys.text, template, form, plaintext)
+	return EncryptDetached(keys.known(), template, form, plaintext)
 }
 
 // Decrypt is the function Decrypt with these keys.
 func (keys *Keys) Decrypt(object, ciphertext []byte) ([]byte, error) {
-	return Decrypt(keys.text, object, ciphertext)
+	return Decrypt(keys.known(), object, ciphertext)
 }
 
 // DecryptWithIterations is the function DecryptWithIterations with these keys.
 func (keys *Keys) DecryptWithIterations(object, ciphertext []byte, iterations uint64) ([]byte, error) {
-	return DecryptWithIterations(keys.text, object, ciphertext, iterations)
+	return DecryptWithIterations(keys.known(), object, ciphertext, iterations)
 }

@@ -93,6 +93,16 @@ func TestBrokenKeys(t *testing.T) {
 	}
 }
 
+func TestKeysThatWereNotRead(t *testing.T) {
+	var none Keys
+	if _, err := none.Verify([]byte("a.b.c")); err != ErrKey {
+		t.Errorf("keys that were not read: %v", err)
+	}
+	if _, err := none.Decrypt([]byte("a.b.c.d.e"), nil); err != ErrKey {
+		t.Errorf("keys that were not read: %v", err)
+	}
+}
+
 func TestWhatKeysCannotVerify(t *testing.T) {
 	for _, text := range []string{rfc7516Key, strings.Replace(hs256Key, "HS256", "A256KW", 1), strings.Replace(hs256Key, "{", `{"use":"enc",`, 1)} {
 		if keysOf(t, text).CanVerify() {

@@ -71,7 +71,7 @@ func (refusal Refusal) Error() string {
 }
 
 // Fault says whether the refusal is about this machine or the keys, and not about a token: a service answers 500, and not 401. It is right for
-// each error of a Keys, which were checked before. Of a function that reads a text of keys, other refusals can be about the keys too.
+// a Keys each of whose keys may do what is asked (Uses). Of a function that reads a text of keys, other refusals can be about the keys too.
 func (refusal Refusal) Fault() bool {
 	return refusal <= ErrRandom || refusal == ErrKey || refusal == ErrNoAlgorithm || refusal > ErrNotOpened
 }

@@ -194,13 +194,15 @@ static void *serve(void *given) {
 }
 
 int main(int count, char **words) {
-    if (count != 5) return fprintf(stderr, "usage: token-service KEYS PORT ISSUER AUDIENCE\n"), 1;
+    char *end = NULL;
+    long port = count == 5 ? strtol(words[2], &end, 10) : -1;
+    if (port < 0 || port > 65535 || end == words[2] || *end) return fprintf(stderr, "usage: token-service KEYS PORT ISSUER AUDIENCE\n"), 1;
     key_file = words[1], expected.issuer = words[3], expected.audience = words[4];
     /* Broken keys end the service here, and not at each request. */
     const char *wrong = look_again();
     if (wrong) return fprintf(stderr, "token-service: %s: %s\n", key_file, wrong), 1;
     signal(SIGPIPE, SIG_IGN);
-    struct sockaddr_in at = {.sin_family = AF_INET, .sin_port = htons((uint16_t)atoi(words[2])), .sin_addr.s_addr = htonl(INADDR_LOOPBACK)};
+    struct sockaddr_in at = {.sin_family = AF_INET, .sin_port = htons((uint16_t)port), .sin_addr.s_addr = htonl(INADDR_LOOPBACK)};
     socklen_t length = sizeof at;
     int listener = socket(AF_INET, SOCK_STREAM, 0), yes = 1;
     setsockopt(listener, SOL_SOCKET, SO_REUSEADDR, &yes, sizeof yes);

@@ -9,7 +9,7 @@
 The words are the file of the keys, the port, the issuer and the audience that each token must name. The file has one key, or a set of keys
 while one key replaces another. The service starts if every key of it may verify signatures. If the file changes, the service reads it again.
 If one of the new keys may not verify, it says so and keeps the old ones. So write a new file and rename it. A bad token is 401. What is not
-the sender's fault is 500. Put a server in front that speaks TLS.
+the sender's fault is 500. claims.py has to lie beside it. Put a server in front that speaks TLS.
 """
 import json, os, re, sys, threading, time, traceback
 from http.server import BaseHTTPRequestHandler, ThreadingHTTPServer
@@ -65,7 +65,7 @@ class Service(BaseHTTPRequestHandler):
 
     def do_GET(self):
         try:
-            status, challenge, body = self.answer(self.headers.get("Authorization", ""))
+            status, challenge, body = self.answer(self.headers.get("Authorization", "").strip(" \t"))
         except Exception:
             # The keys or this machine are at fault. The sender need not know why.
             traceback.print_exc()

@@ -1,6 +1,6 @@
 """Tries what examples/ has for services, with an installed library: the judges of claims in Python, Go, Rust, C and JavaScript with the cases of
-examples/claims/cases.json, and the web services in these languages but JavaScript with tokens that Python's hmac signed. The code that the pages for services
-show is compared with the examples, or run.
+examples/claims/cases.json, and the web services in these languages with tokens that Python's hmac signed. The code that the pages for services show
+is compared with the examples, or run.
 """
 import asyncio, concurrent.futures, contextlib, http.client, json, os, pathlib, re, resource, shutil, subprocess, sys, tempfile, time
 
@@ -18,8 +18,7 @@ AT_ONCE = 1000
 
 
 class Built:
-    """What was built of a language: the words of the judge and of the service, their environment, and what makes a library that refuses. There is
-    no service for Node."""
+    """What was built of a language: the words of the judge and of the service, their environment, and what makes a library that refuses."""
 
     def __init__(self, name, judge, service, environment, faulty=None):
         self.name, self.judge, self.service, self.environment, self.faulty = name, judge, service, environment, faulty
@@ -127,9 +126,12 @@ def node_module(here, environment):
 
 
 def in_node(work, usr, environment):
-    here = work / "node-claims"
+    here, false = work / "node-claims", work / "false_verify_node.so"
     if node_module(here, environment):
-        yield Built("Node", ["node", JUDGES / "judge.js", here / "lakhdzeva.node"], None, environment)
+        service = ["node", here / "token-service.js"]
+        flags = run("pkg-config", "--cflags", "--libs", "lakhdzeva", env=environment)[1].split()
+        faulty = shows("a library that refuses compiles, for Node", "cc", *STRICT, "-shared", "-fPIC", JUDGES / "false_verify.c", *flags, "-ldl", "-o", false)
+        yield Built("Node", ["node", JUDGES / "judge.js", here / "lakhdzeva.node"], service, environment, ["env", f"LD_PRELOAD={false}", *service] if faulty else None)
 
 
 # ---- claims
@@ -513,5 +515,4 @@ def try_all(environment, builds):
     for built in [*in_python(environment), *(it for build in builds for it in build.result())]:
         with tempfile.TemporaryDirectory() as folder:
             try_claims(built)
-            if built.service:
-                try_service(built, pathlib.Path(folder))
+            try_service(built, pathlib.Path(folder))

@@ -4,7 +4,6 @@ use std::path::{Path, PathBuf};
 use std::{fmt, io};
 
 /// Why a file gives no [`Keys`](crate::Keys). Its text names the file, such as `service.jwk: 7 Json`.
-#[derive(Debug)]
 #[non_exhaustive]
 pub enum FileError {
     /// The file cannot be read.
@@ -49,6 +48,13 @@ impl fmt::Display for FileError {
             FileError::Unreadable { file, cause } => write!(out, "{}: {cause}", file.display()),
             FileError::Refused { file, refusal } => write!(out, "{}: {refusal}", file.display()),
         }
+    }
+}
+
+impl fmt::Debug for FileError {
+    /// Writes the same, since a `main` that returns an error prints it so.
+    fn fmt(&self, out: &mut fmt::Formatter<'_>) -> fmt::Result {
+        fmt::Display::fmt(self, out)
     }
 }
 

@@ -95,7 +95,7 @@ impl Refusal {
 
     /// Whether it is about this machine or the keys, and not about a token: a service answers 500, and not 401.
     ///
-    /// It is right for each refusal of [`Keys`](crate::Keys), which were checked before. Of a function that reads a text of keys, other refusals
+    /// It is right for [`Keys`](crate::Keys) each of which may do what is asked (`uses`). Of a function that reads a text of keys, other refusals
     /// can be about the keys too.
     #[must_use]
     pub const fn is_fault(self) -> bool {

@@ -75,6 +75,7 @@ fn keys_of_a_file() {
         assert_eq!(error.refusal(), Some(refusal), "{text}");
         assert_eq!(error.file(), path);
         assert_eq!(error.to_string(), format!("{}: {refusal}", path.display()));
+        assert_eq!(format!("{error:?}"), error.to_string());
     }
     fs::remove_dir_all(path.parent().unwrap()).unwrap();
 }

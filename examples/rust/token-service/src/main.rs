@@ -168,9 +168,10 @@ fn main() {
     };
     // Broken keys end the service here, and not at each request.
     let mut file = KeyFile { name: name.clone(), seen: None, keys: None };
-    let listener = file.read().and_then(|()| TcpListener::bind(format!("127.0.0.1:{port}")).map_err(|fault| fault.to_string()));
+    let read = file.read().map_err(|why| format!("{name}: {why}"));
+    let listener = read.and_then(|()| TcpListener::bind(format!("127.0.0.1:{port}")).map_err(|fault| format!("port {port}: {fault}")));
     let listener = listener.unwrap_or_else(|why| {
-        eprintln!("token-service: {name}: {why}");
+        eprintln!("token-service: {why}");
         process::exit(1);
     });
     println!("listening on port {}", listener.local_addr().map_or(0, |at| at.port()));
