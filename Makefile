@@ -15,7 +15,8 @@ demo:
 test:
 	RT_JOBS=$$(nproc | awk '{ print ($$1 < 3) ? $$1 : 3 }') rt ci
 
-# Tries the wrong bodies in crates/*/edits, which the gate does not try: the prover must refuse each. CRATES names the crates, else all.
+# Tries the wrong bodies in crates/*/edits, which the gate does not try: the prover must refuse each. CRATES names the crates, else all, and may name
+# a part of one, as tokens/verify.
 edits:
 	@scripts/edits $(CRATES)
 
