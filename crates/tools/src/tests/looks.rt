@@ -89,7 +89,7 @@ const PLACES: [(&str, &str, &str); 39] = [
         "a member of a signature next to signatures",
     ),
     (
-        "{\"payload\":\"\",\"signatures\":[{\"header\":{\"alg\":\"a\"},\"signature\":\"\"},{\"header\":{\"alg\":\"a\"},\"signature\":\"\",\"protected\":\"W10\"}]}",
+        "{\"payload\":\"\",\"signatures\":[{\"header\":{\"alg\":\"a\"},\"signature\":\"\"},{\"header\":{\"alg\":\"a\"},\"signature\":\"\",\"protected\":\"bnVsbA\"}]}",
         "a signed object, which jose refuses: 11 Header",
         "protected of signature 2",
     ),
