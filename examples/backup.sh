@@ -1,7 +1,7 @@
 #!/bin/sh
 # A backup is encrypted as it is made, in parts that fit into memory when they are decrypted. Encrypting holds 4,096 octets of a part, and
-# decrypting holds the whole part once or twice. With A256KW and the default A256CBC-HS512, 10 GB take one to two minutes, and two to three
-# to restore. The script needs split of GNU coreutils, which has --filter.
+# decrypting holds the whole part once or twice. With A256KW and the default A256CBC-HS512, and parts of 64 MiB, 10 GB take one to two
+# minutes, and two to three to restore. The script needs split of GNU coreutils, which has --filter. Keep backup.jwk elsewhere than parts.
 set -eu
 umask 077
 # The script overwrites nothing: it ends if one of these exists.
@@ -12,7 +12,7 @@ for name in backup.jwk parts whole; do
     fi
 done
 # All clear texts are in a new folder that nobody else can enter. umask is not enough for that: in a folder with a default ACL (acl(5)) it
-# does nothing. The clear texts are deleted when the script ends, also by a signal.
+# does nothing. The clear texts are deleted when the script ends, also by HUP, INT or TERM.
 clear=$(mktemp -d clear.XXXXXX)
 trap 'rm -f -r "$clear" || exit 1' EXIT
 trap 'exit 1' HUP INT TERM
@@ -21,8 +21,8 @@ head -c 300000 /dev/urandom > "$clear/files/image"
 echo 'correct horse' > "$clear/files/secret.txt"
 jose jwk gen -i '{"alg":"A256KW","kid":"backup"}' -o backup.jwk
 
-# Make it. Each part is a ciphertext of its own, with its object next to it. Parts have 100,000 octets here; make them as large as the
-# memory of the machine that decrypts them allows. If tar fails, the last part is well-formed and too short, and a pipe ends with the status
+# Make it. Each part is a ciphertext of its own, with its object next to it. Parts have 100,000 octets here, since the demonstration is
+# small; write `-b 64M` for files, or as much as the memory of the machine that decrypts them allows. If tar fails, the last part is well-formed and too short, and a pipe ends with the status
 # of its last command alone. So tar leaves a mark if it succeeds, and rm fails without the mark.
 mkdir parts
 { tar -C "$clear" -cf - files && : > whole; } |

@@ -11,7 +11,7 @@ for name in file.jwk disk.jwe; do
     fi
 done
 # The clear text is in a new folder that nobody else can enter, since umask does nothing in a folder with a default ACL (acl(5)). It is
-# deleted when the script ends, also by a signal.
+# deleted when the script ends, also by HUP, INT or TERM.
 clear=$(mktemp -d clear.XXXXXX)
 trap 'rm -f -r "$clear" || exit 1' EXIT
 trap 'exit 1' HUP INT TERM

@@ -11,7 +11,8 @@ for name in keys keys.new secrets secret.plain; do
         exit 1
     fi
 done
-# The clear text is in a file that jose makes for its owner alone. It is deleted when the script ends, also by a signal.
+# The clear text is in a file that jose makes for its owner alone. It is deleted when the script ends, also by HUP,
+# INT or TERM.
 trap 'rm -f secret.plain || exit 1' EXIT
 trap 'exit 1' HUP INT TERM
 

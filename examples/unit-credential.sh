@@ -11,7 +11,7 @@ for name in etc run credentials shop-secret.service shop.service; do
     fi
 done
 etc=$PWD/etc run=$PWD/run # in a real unit: /etc/shop and /run/shop-secret
-# The clear texts are deleted when the script ends, also by a signal.
+# The clear texts are deleted when the script ends, also by HUP, INT or TERM.
 trap 'rm -f -r "$run" credentials || exit 1' EXIT
 trap 'exit 1' HUP INT TERM
 mkdir "$etc"

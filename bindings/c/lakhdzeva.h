@@ -21,7 +21,7 @@
    - 0: each buffer begins with the result, and its length says how many bytes that has. The bytes behind it are as they were.
    - 3 LAKHDZEVA_WRITE: a buffer is too small. Each length is the size that is needed, so a size of 0 asks for it. The functions with `_room`
      in their names make this call unnecessary: each returns a buffer size that is always enough.
-   - Every other number: each length is 0.
+   - Every other number: each length is 0. Only 1 LAKHDZEVA_USAGE for a pointer or a flag (below) writes nothing at all.
    Unless the result is 0, no buffer changes.
 
    ---- What to mind with every function

@@ -1,4 +1,5 @@
-// Verifies a token with the shared library, by JNA (libjna-java of Debian), and writes its payload. KEYS and TOKEN are files:
+// Verifies a token with the shared library, by JNA (libjna-java of Debian), and writes its payload. It needs Java 11 or later. KEYS and TOKEN
+// are files:
 //
 //     java -cp /usr/share/java/jna.jar VerifyToken.java KEYS TOKEN
 //

@@ -255,8 +255,9 @@ def page_of(path):
             comment, is_group = [], False
         elif line.startswith((" ", "use ", "pub use ", "infix")):
             comment, is_group = comment if line.startswith("infix") else [], False
-            if current and line.startswith(" ") and re.sub(r"--.*", "", line).strip():
-                current.lines.append(re.sub(r"--.*", "", line))
+            # The two dashes of a comment stand alone. In a string, such as "-----BEGIN", they do not.
+            if current and line.startswith(" ") and (code := re.sub(r"(?<!\S)--(?!\S).*", "", line)).strip():
+                current.lines.append(code)
         else:
             is_group = False
             head = re.match(r"((?:abbrev |opaque |unfoldable |pub )*)((?:record |data )?)(◌?[^\s(){}:]*◌?)(?: \{ℓ\})?\s*(.?)", line)

@@ -16,7 +16,7 @@ use Rattle.tools.specs.declared.command_files.Found.TheVariants.{File, Missing a
 use Rattle.tools.specs.declared.command_words.WordFault.{WordFault}
 use Rattle.tools.specs.declared.command_words.WordFault.TheVariants.{Memory, Long, Stray, Unknown, Twice, NoValue, Missing, Inputs, Outputs, NoHash}
 use Rattle.tools.specs.CommandWords.{words_fault}
-use Rattle.tools.specs.Printing.{printable}
+use Rattle.tools.specs.Printing.{printed}
 
 -- ---- what is shown (docs/SPECIFICATION.md "Tools")
 
@@ -29,10 +29,6 @@ has_brace word = nat_lt (position_or_len is_brace word) (length word)
 -- A word from its first brace on is {..}: it may be JSON that holds a key.
 abbrev pub shown : List ℕ → List ℕ
 shown word = if has_brace word then before_first is_brace word ++ codes "{..}" else word
-
--- what is written of a line: printable ASCII
-abbrev pub printed : List ℕ → List ℕ
-printed line = printable line ++ codes "\n"
 
 abbrev pub letter_text : ℕ → List ℕ
 letter_text letter = codes "-" ++ encode_utf8 letter
@@ -102,8 +98,8 @@ output_line options settings letter value =
 -- The text of an option: a line if it is an input or an output, and has a value. What the system said of a file is in it.
 abbrev pub IsTextBy : (List ℕ → Found → Type 0) → List OptionEntry → Settings → OptionEntry → Bool → Bool → Option (List ℕ) → List ℕ → Type 0
 IsTextBy finds options settings option true writes (Some value) text =
-    (line : List ℕ) × ((text ≡ printed line) × IsInputLine finds option.letter (origin_named (is_json option.role) (Some value)) line)
-IsTextBy finds options settings option false true (Some value) text = text ≡ printed (output_line options settings option.letter value)
+    (line : List ℕ) × ((text ≡ printed (line ∷ [])) × IsInputLine finds option.letter (origin_named (is_json option.role) (Some value)) line)
+IsTextBy finds options settings option false true (Some value) text = text ≡ printed (output_line options settings option.letter value ∷ [])
 IsTextBy finds options settings option reads writes value text = text ≡ []
 
 abbrev pub IsOptionText : (List ℕ → Found → Type 0) → List OptionEntry → Settings → OptionEntry → List ℕ → Type 0
@@ -117,10 +113,6 @@ AreOptionTexts finds options settings (option ∷ rest) text = (one : List ℕ) 
     × IsOptionText finds options settings option one × AreOptionTexts finds options settings rest others))
 
 -- ---- all of it (docs/SPECIFICATION.md "Tools")
-
-abbrev pub all_printed : List (List ℕ) → List ℕ
-all_printed [] = []
-all_printed (line ∷ lines) = printed line ++ all_printed lines
 
 abbrev pub refused_line : List ℕ
 refused_line = codes "jose refuses these words: 1 Usage"
@@ -145,9 +137,9 @@ refusal_lines other = codes "a command has two words, such as jws ver" ∷ []
 abbrev pub AreNamed : (List ℕ → Found → Type 0) → InvocationView → List ℕ → Type 0
 AreNamed finds invocation text =
     let options = (row_of invocation.command).options in
-    (all : List ℕ) × ((text ≡ printed (codes "jose would read these words") ++ all) × AreOptionTexts finds options invocation.options options all)
+    (all : List ℕ) × ((text ≡ printed (codes "jose would read these words" ∷ []) ++ all) × AreOptionTexts finds options invocation.options options all)
 
 -- The text is what jose's own reading of the words says: what they name, or why they are refused.
 abbrev pub IsExplained : (List ℕ → Found → Type 0) → List (List ℕ) → List ℕ → Type 0
 IsExplained finds asked text =
-    MatchResult (invocation_of asked) (λ invocation. AreNamed finds invocation text) (λ refusal. text ≡ all_printed (refused_line ∷ refusal_lines asked))
+    MatchResult (invocation_of asked) (λ invocation. AreNamed finds invocation text) (λ refusal. text ≡ printed (refused_line ∷ refusal_lines asked))

@@ -54,7 +54,7 @@ TextsHideSecrets = (f : Data → Data) (text other : List ℕ) (value differing 
     → (object_line differing ≡ object_line value) × (shown_text secret_names differing ≡ shown_text secret_names value)
     × (shown_header (json_value other) ≡ shown_header (json_value text))
 
--- Of a text in braces that is no JSON the refusal alone is shown, since it may hold a damaged key.
+-- Of a text in braces that is not read as JSON the refusal alone is shown, since it may hold a damaged key.
 abbrev pub DamagedTextsAreHidden : Type 0
 DamagedTextsAreHidden = (name text other : List ℕ) (refusal : Refusal) → is_json_form text ≡ true → is_json_form other ≡ true
     → json_value text ≡ Err refusal → json_value other ≡ Err refusal → look_lines name text ≡ look_lines name other

@@ -7,12 +7,12 @@ use Rattle.serde_json.specs.Find.{get, as_str}
 use Rattle.octets.specs.declared.refusal.Refusal.{Refusal}
 use Rattle.octets.specs.Base64url.{decoded}
 use Rattle.ciphers.specs.declared.key_alg.KeyAlg.{KeyAlg}
-use Rattle.ciphers.specs.Algorithms.{encryption_algs, management_algs, management_name}
+use Rattle.ciphers.specs.Algorithms.{encryption_alg_of, encryption_algs, management_alg_of, management_algs, management_name}
 use Rattle.prf.specs.declared.digests.HashAlg.TheVariants.{S256}
 use Rattle.keys.specs.declared.algorithm.Algorithm.TheVariants.{Signature, Encryption}
 use Rattle.keys.specs.declared.algorithm.SignatureAlg.{SignatureAlg}
 use Rattle.keys.specs.declared.operation.Operation.TheVariants.{Sign, Verify}
-use Rattle.keys.specs.Algorithms.{management_operations, signature_algs, signature_name}
+use Rattle.keys.specs.Algorithms.{management_operations, signature_alg_of, signature_algs, signature_name}
 use Rattle.keys.specs.Keys.{OctetKey, allows, fits}
 use Rattle.keys.specs.KeySets.{items_count, key_objects}
 use Rattle.keys.specs.Limits.{limits}
@@ -52,9 +52,25 @@ management_words key (alg ∷ algs) = word_if (serves_encryption key alg) (manag
 abbrev pub may_nothing : KeyUses → Bool
 may_nothing uses = not (uses.sign || uses.verify || uses.encrypt || uses.decrypt)
 
+-- its `alg` is absent or that of an algorithm (RFC 7517 section 4.4)
+abbrev pub names_algorithm : Option (List ℕ) → Bool
+names_algorithm None = true
+names_algorithm (Some name) = is_some (signature_alg_of name) || is_some (management_alg_of name) || is_some (encryption_alg_of name)
+
+-- some algorithm fits it, whatever it may do
+abbrev pub fits_any : OctetKey → Bool
+fits_any key = list_any (λ alg. fits key (Signature alg)) signature_algs
+    || list_any (λ alg. list_any (λ enc. fits key (Encryption alg enc)) encryption_algs) management_algs
+
+-- why a key may do nothing: the first cause
+abbrev pub why_idle : OctetKey → List ℕ
+why_idle key = if not (names_algorithm key.alg) then codes "alg is not known"
+    else if fits_any key then codes "use or key_ops allows none"
+    else codes "alg asks for a k of another length"
+
 -- the words of what it may do, and the names of the algorithms, if there are any
 unfoldable pub serving_text : OctetKey → List ℕ
-serving_text key = if may_nothing (uses_of key) then codes " for no algorithm"
+serving_text key = if may_nothing (uses_of key) then codes " for no algorithm: " ++ why_idle key
     else use_words (uses_of key) ++ codes "," ++ signature_words key signature_algs ++ management_words key management_algs
 
 abbrev pub good_text : OctetKey → List ℕ

@@ -55,7 +55,7 @@ kind_text kind.SignedDetached = codes "a signed object, and its payload is anoth
 kind_text kind.Encrypted = codes "an encrypted object"
 kind_text kind.EncryptedDetached = codes "an encrypted object, and its ciphertext is another file"
 kind_text kind.OtherObject = codes "a JSON object, but no key and no object of jose"
-kind_text kind.NoJson = codes "a text in braces that is no JSON"
+kind_text kind.NoJson = codes "a text in braces"
 kind_text kind.Neither = codes "no key and no object"
 
 -- why jose refuses a text of this kind; a content that is another file is taken as empty
@@ -83,10 +83,17 @@ title name kind refusal = name ++ codes ": " ++ kind_text kind ++ refused_text r
 abbrev pub begins_with_bearer : List ℕ → Bool
 begins_with_bearer text = nat_le 7 (length text) && str_eq_ignore_ascii_case (take 7 text) (codes "bearer ")
 
+-- U+FEFF in UTF-8, which some editors write in front (RFC 3629 section 6)
+abbrev pub byte_order_mark : List ℕ
+byte_order_mark = 239 ∷ 187 ∷ 191 ∷ []
+
 -- what a text may be that is no object
 abbrev pub text_hint : List ℕ → List ℕ
 text_hint text = if begins_with_bearer text then codes ": it begins with Bearer"
     else if starts_with nat_eq text (codes "-----BEGIN") then codes ": it looks like a PEM file"
+    else if starts_with nat_eq text byte_order_mark then codes ": it begins with a byte order mark"
+    else if starts_with nat_eq text (codes "\"") then codes ": it begins with a quotation mark"
+    else if starts_with nat_eq text (codes "<") then codes ": it looks like HTML or XML"
     else character_hint text
 
 abbrev pub is_neither : TextKind → Bool

@@ -2,11 +2,13 @@
 ghost use Rattle.std.specs.Prelude.{◌≡◌, ◌++◌, ◌∷◌, map, string_bytes, IfErr, IfOk, OnOk};
 ghost use Rattle.jose.specs.Invocations.{invocation_view};
 ghost use Rattle.jose.specs.Words.{command_named};
-ghost use Rattle.tools.specs.CommandLines.{all_printed, command_lines, refusal_lines, refused_line, IsExplained, AreNamed};
+ghost use Rattle.tools.specs.CommandLines.{command_lines, refusal_lines, refused_line, IsExplained, AreNamed};
+ghost use Rattle.tools.specs.Printing.{printed};
 
 use crate::command_files::FindFiles;
-use crate::command_lines::{add_line, add_options, fault_line, unknown_line};
+use crate::command_lines::{add_options, fault_line, unknown_line};
 use crate::command_words::{WordFault, words_fault};
+use crate::printing::add_line;
 use jose::{Invocation, command_row, parse};
 use octets::Refusal;
 use std::alloc::{AllocError, Global};
@@ -40,8 +42,9 @@ fn named<F: FindFiles>(
 }
 
 /// Why `jose` refuses the words. Fails only with `Memory`.
+#[tactic(auto, using(crate::proofs::Printable::printed_then))]
 fn refused(alloc: Global, words: &[String]) -> Result<Vec<u8>, Refusal>
-    ensures refused { IfOk result (λ text. text.items ≡ all_printed (refused_line ∷ refusal_lines (map string_bytes words.now))) }
+    ensures refused { IfOk result (λ text. text.items ≡ printed (refused_line ∷ refusal_lines (map string_bytes words.now))) }
     ensures memory { IfErr result (λ e. e ≡ Refusal.Memory) }
 {
     let mut text = Vec::new(alloc);
@@ -52,7 +55,7 @@ fn refused(alloc: Global, words: &[String]) -> Result<Vec<u8>, Refusal>
 
 /// Adds the first cause. Fails only with `Memory`.
 fn add_cause(alloc: Global, text: &mut Vec<u8>, words: &[String]) -> Result<(), Refusal>
-    ensures added { OnOk result (text.new.items ≡ text.old.items ++ all_printed (refusal_lines (map string_bytes words.now))) }
+    ensures added { OnOk result (text.new.items ≡ text.old.items ++ printed (refusal_lines (map string_bytes words.now))) }
     ensures memory { IfErr result (λ e. e ≡ Refusal.Memory) }
 {
     match words {
@@ -76,7 +79,7 @@ fn add_command_cause(
     words: &[String],
 ) -> Result<(), Refusal>
     ensures added { OnOk result (text.new.items ≡ text.old.items
-        ++ all_printed (command_lines (command_named noun.now verb.now) noun.now verb.now (map string_bytes words.now))) }
+        ++ printed (command_lines (command_named noun.now verb.now) noun.now verb.now (map string_bytes words.now))) }
     ensures memory { IfErr result (λ e. e ≡ Refusal.Memory) }
 {
     let line = match command_row(noun, verb) {

@@ -1,7 +1,6 @@
 //! The lines of `jose-look command`.
 ghost use Rattle.std.specs.Prelude.{◌≡◌, ◌++◌, [], get_or, map, string_bytes, find, option_map, ℕ, List, Some, false, IfOk, OnOk};
-ghost use Rattle.tools.specs.Printing.{printable};
-ghost use Rattle.tools.specs.CommandLines.{printed, shown, letter_text, octet_text, fault_line, found_text, output_line, unknown_line, same_text, IsOptionText, AreOptionTexts, is_same_file, is_kept, names_file, IsInputLine};
+ghost use Rattle.tools.specs.CommandLines.{shown, letter_text, octet_text, fault_line, found_text, output_line, unknown_line, same_text, IsOptionText, AreOptionTexts, is_same_file, is_kept, names_file, IsInputLine};
 ghost use Rattle.tools.specs.CommandViews.{found_entry};
 ghost use Rattle.jose.specs.Files.{origin_named};
 ghost use Rattle.jose.specs.Code.Rows.{option_entry};
@@ -12,24 +11,9 @@ ghost use Rattle.std.specs.Str.{bytes_eq};
 
 use crate::command_files::{FindFiles, Found};
 use crate::command_words::WordFault;
-use crate::printing::add_printable;
+use crate::printing::{add, add_line};
 use jose::{Invocation, OptionRow, Role};
 use std::alloc::{AllocError, Global};
-
-/// Adds the line, in printable ASCII, and a line feed.
-#[tactic(auto, using(std::proofs::Common::append_assoc))]
-pub(crate) fn add_line(text: &mut Vec<u8>, line: &[u8]) -> Result<(), AllocError>
-    ensures { OnOk result (text.new.items ≡ text.old.items ++ printed line.now) }
-{
-    add_printable(text, line)?;
-    text.extend_from_slice(b"\n")
-}
-
-pub(crate) fn add(line: &mut Vec<u8>, piece: &str) -> Result<(), AllocError>
-    ensures { OnOk result (line.new.items ≡ line.old.items ++ piece.now) }
-{
-    line.extend_from_slice(piece.as_bytes())
-}
 
 /// Adds what is shown of a word.
 #[tactic(auto, using(std::proofs::Common::append_assoc))]

@@ -24,6 +24,9 @@ use octets::{Refusal, without_line_end};
 use serde_json::Value;
 use std::alloc::{AllocError, Global};
 
+/// U+FEFF in UTF-8 (RFC 3629 section 6).
+const BYTE_ORDER_MARK: [u8; 3] = [0xEF, 0xBB, 0xBF];
+
 /// Adds the lines of a file of this name and text.
 pub(crate) fn add_look(
     alloc: Global,
@@ -266,6 +269,12 @@ fn text_hint(text: &[u8]) -> &'static str
         ": it begins with Bearer"
     } else if text.starts_with(b"-----BEGIN") {
         ": it looks like a PEM file"
+    } else if text.starts_with(&BYTE_ORDER_MARK) {
+        ": it begins with a byte order mark"
+    } else if text.starts_with(b"\"") {
+        ": it begins with a quotation mark"
+    } else if text.starts_with(b"<") {
+        ": it looks like HTML or XML"
     } else {
         character_hint(text)
     }

@@ -1,13 +1,14 @@
 //! What a key may do, and by which algorithms, in words.
-ghost use Rattle.std.specs.Prelude.{◌≡◌, ◌++◌, OnOk};
+ghost use Rattle.std.specs.Prelude.{◌≡◌, ◌++◌, option_map, OnOk, Some};
 ghost use Rattle.std.specs.List.{list_any};
-ghost use Rattle.ciphers.specs.Algorithms.{encryption_algs};
+ghost use Rattle.ciphers.specs.Algorithms.{encryption_algs, management_algs};
+ghost use Rattle.keys.specs.Algorithms.{signature_algs};
 ghost use Rattle.keys.specs.Keys.{fits};
 ghost use Rattle.keys.specs.Code.Views.{key_view};
 ghost use Rattle.tokens.specs.Code.Uses.{uses_view};
-ghost use Rattle.tools.specs.LookedKeys.{may_nothing, management_words, serves_encryption, serves_signatures, serving_text, signature_words, use_words, word_if};
+ghost use Rattle.tools.specs.LookedKeys.{fits_any, may_nothing, management_words, names_algorithm, serves_encryption, serves_signatures, serving_text, signature_words, use_words, why_idle, word_if};
 
-use crate::printing::add;
+use crate::printing::{add, add_both};
 use ciphers::{ContentAlg, KeyAlg};
 use keys::{Algorithm, Key, Operation, SignatureAlg};
 use std::alloc::AllocError;
@@ -20,7 +21,7 @@ pub(crate) fn add_serving(line: &mut Vec<u8>, key: &Key) -> Result<(), AllocErro
 {
     let uses = key_uses(key);
     if may_nothing(uses) {
-        return add(line, " for no algorithm");
+        return add_both(line, " for no algorithm: ", why_idle(key));
     }
     add_uses(line, uses)?;
     add(line, ",")?;
@@ -32,6 +33,58 @@ fn may_nothing(uses: KeyUses) -> bool
     ensures { result ≡ may_nothing (uses_view uses) }
 {
     !(uses.sign || uses.verify || uses.encrypt || uses.decrypt)
+}
+
+/// Why the key may do nothing: the first cause.
+fn why_idle(key: &Key) -> &'static str
+    ensures { result.now ≡ why_idle (key_view key.now) }
+{
+    if !names_algorithm(key.alg()) {
+        "alg is not known"
+    } else if fits_any(key) {
+        "use or key_ops allows none"
+    } else {
+        "alg asks for a k of another length"
+    }
+}
+
+/// Whether the `alg` is absent or that of an algorithm.
+fn names_algorithm(alg: Option<&str>) -> bool
+    ensures { result ≡ names_algorithm (option_map (λ name. name.now) alg.entry) }
+{
+    match alg {
+        None => true,
+        Some(name) => is_name(name),
+    }
+}
+
+fn is_name(name: &str) -> bool
+    ensures { result ≡ names_algorithm (Some name.now) }
+{
+    SignatureAlg::named(name).is_some()
+        || KeyAlg::named(name).is_some()
+        || ContentAlg::named(name).is_some()
+}
+
+/// Whether some algorithm fits the key, whatever it may do.
+fn fits_any(key: &Key) -> bool
+    ensures { result ≡ fits_any (key_view key.now) }
+{
+    fits_a_signature(key) || fits_an_encryption(key)
+}
+
+fn fits_a_signature(key: &Key) -> bool
+    ensures { result ≡ list_any (λ alg. fits (key_view key.now) (Algorithm.Signature alg)) signature_algs }
+{
+    SignatureAlg::all()
+        .iter()
+        .any(|alg| key.fits(Algorithm::Signature(*alg)))
+}
+
+fn fits_an_encryption(key: &Key) -> bool
+    ensures { result ≡ list_any (λ alg. list_any (λ enc. fits (key_view key.now) (Algorithm.Encryption alg enc)) encryption_algs) management_algs }
+{
+    KeyAlg::all().iter().any(|alg| fits_some(key, *alg))
 }
 
 #[tactic(auto, using(std::proofs::Common::append_assoc))]

@@ -29,7 +29,7 @@ pub(crate) enum TextKind {
     EncryptedDetached,
     /// A JSON object of no other kind.
     OtherObject,
-    /// A text in braces that is no JSON.
+    /// A text in braces that `jose` does not read as JSON.
     NoJson,
     /// No JSON, and no object in compact form.
     Neither,
@@ -92,7 +92,7 @@ impl TextKind {
                 "an encrypted object, and its ciphertext is another file"
             }
             TextKind::OtherObject => "a JSON object, but no key and no object of jose",
-            TextKind::NoJson => "a text in braces that is no JSON",
+            TextKind::NoJson => "a text in braces",
             TextKind::Neither => "no key and no object",
         }
     }

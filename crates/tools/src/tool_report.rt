@@ -196,7 +196,7 @@ fn add_why(line: &mut Vec<u8>, words: Words<'_>, why: &Why) -> Result<(), AllocE
             line,
             "it is a key, and not a set. jose-set join -o NEW makes a set",
         ),
-        Why::NoFile => add(line, "it is not a file"),
+        Why::NoFile => add(line, "no regular file of this name was found"),
         Why::Link => add(line, "it is a symbolic link"),
         Why::NotWritable => add(line, "it may not be written"),
         Why::NoneStays => add(line, "one key must stay"),

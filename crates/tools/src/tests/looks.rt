@@ -7,7 +7,7 @@ use std::process::Abort;
 const LAST: &str = "Nothing of this is verified.\n";
 
 /// A text, and the lines of a file `f` with it, without its name.
-const ROWS: [(&str, &str); 16] = [
+const ROWS: [(&str, &str); 23] = [
     (
         "{\"kty\":\"oct\",\"k\":\"AAAA\"}",
         "a key\nkey: good juGfhwtvxgs-pCUrY2O4me_EUqZncxWSUm6eCOkHG9A 3 bytes, encrypt decrypt, PBES2-HS256+A128KW PBES2-HS384+A192KW PBES2-HS512+A256KW {\"k\":\"..\",\"kty\":\"oct\"}\n",
@@ -26,7 +26,7 @@ const ROWS: [(&str, &str); 16] = [
     ),
     (
         "{\"kty\":\"oct\",\"k\":\"AA\",\"alg\":\"HS256\"}",
-        "a key\nkey: good xoNKolCCOwo3X8anKSSJQKMilUpNMW2KQv6Md8OcdL0 1 bytes, for no algorithm {\"alg\":\"HS256\",\"k\":\"..\",\"kty\":\"oct\"}\n",
+        "a key\nkey: good xoNKolCCOwo3X8anKSSJQKMilUpNMW2KQv6Md8OcdL0 1 bytes, for no algorithm: alg asks for a k of another length {\"alg\":\"HS256\",\"k\":\"..\",\"kty\":\"oct\"}\n",
     ),
     (
         "eyJhbGciOiJIUzI1NiIsImp3ayI6eyJrIjoiQUEifX0.AA.AA\n",
@@ -58,11 +58,39 @@ const ROWS: [(&str, &str); 16] = [
     ),
     (
         "{\"k\":1.5}",
-        "a text in braces that is no JSON, which jose refuses: 8 Number\n",
+        "a text in braces, which jose refuses: 8 Number\n",
     ),
     (
         "-----BEGIN",
         "no key and no object: it looks like a PEM file\n",
+    ),
+    (
+        "{\"kty\":\"oct\",\"k\":\"AA\",\"alg\":\"RS256\",\"use\":\"other\"}",
+        "a key\nkey: good xoNKolCCOwo3X8anKSSJQKMilUpNMW2KQv6Md8OcdL0 1 bytes, for no algorithm: alg is not known {\"alg\":\"RS256\",\"k\":\"..\",\"kty\":\"oct\",\"use\":\"other\"}\n",
+    ),
+    (
+        "{\"kty\":\"oct\",\"k\":\"AA\",\"alg\":\"A128GCM\"}",
+        "a key\nkey: good xoNKolCCOwo3X8anKSSJQKMilUpNMW2KQv6Md8OcdL0 1 bytes, for no algorithm: alg asks for a k of another length {\"alg\":\"A128GCM\",\"k\":\"..\",\"kty\":\"oct\"}\n",
+    ),
+    (
+        "{\"kty\":\"oct\",\"k\":\"AA\",\"key_ops\":[\"wrap\"]}",
+        "a key\nkey: good xoNKolCCOwo3X8anKSSJQKMilUpNMW2KQv6Md8OcdL0 1 bytes, for no algorithm: use or key_ops allows none {\"k\":\"..\",\"key_ops\":[\"wrap\"],\"kty\":\"oct\"}\n",
+    ),
+    (
+        "\u{feff}{\"kty\":\"oct\",\"k\":\"AA\"}",
+        "no key and no object: it begins with a byte order mark\n",
+    ),
+    (
+        "\"a b\"",
+        "no key and no object: it begins with a quotation mark\n",
+    ),
+    (
+        "\"e30.AA.AA\"",
+        "a signed object, which jose refuses: 6 Base64: it begins with a quotation mark\nprotected: jose: 6 Base64\nsignatures: 1\nwhere: protected\n",
+    ),
+    (
+        "<a href=\"/\">",
+        "no key and no object: it looks like HTML or XML\n",
     ),
     (
         "a b",
