@@ -3,6 +3,7 @@
 //
 //     java -cp /usr/share/java/jna.jar VerifyToken.java KEYS TOKEN
 //
+// LAKHDZEVA_LIBRARY names the library if the loader does not find it, such as PREFIX/lib/liblakhdzeva.so.3.
 // A service keeps `keys`, which are judged once, and answers 401 to a BadToken, and 500 to a Fault. It checks the claims of the payload itself.
 import com.sun.jna.Library;
 import com.sun.jna.Native;
@@ -70,6 +71,10 @@ public class VerifyToken {
     }
 
     public static void main(String[] words) throws IOException {
+        if (words.length != 2) {
+            System.err.println("usage: VerifyToken KEYS TOKEN");
+            System.exit(1);
+        }
         try {
             VerifyToken keys = new VerifyToken(Files.readAllBytes(Path.of(words[0])));
             System.out.write(keys.verify(Files.readAllBytes(Path.of(words[1]))));
