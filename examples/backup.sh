@@ -1,7 +1,7 @@
 #!/bin/sh
 # A backup is encrypted as it is made, in parts that fit into memory when they are decrypted. Encrypting holds 4,096 octets of a part, and
-# decrypting holds the whole part once or twice. With A256KW and the default A256CBC-HS512, and parts of 64 MiB, 10 GB take one to two
-# minutes, and two to three to restore. The script needs split of GNU coreutils, which has --filter. Keep backup.jwk elsewhere than parts.
+# decrypting holds the whole part once or twice. With A256KW and the default A256CBC-HS512, and parts of 64 MiB, 10 GB take about two
+# minutes, and three to restore. The script needs split of GNU coreutils, which has --filter. Keep backup.jwk elsewhere than parts.
 set -eu
 umask 077
 # The script overwrites nothing: it ends if one of these exists.
