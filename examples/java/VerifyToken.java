@@ -28,10 +28,15 @@ public class VerifyToken {
         String lakhdzeva_name(int status);
     }
 
+    /** The number and the name of a result, such as 17 NotOpened. */
+    private static String text(int status) {
+        return status + " " + Lakhdzeva.CALLS.lakhdzeva_name(status);
+    }
+
     /** The token is at fault. */
     static class BadToken extends Exception {
         BadToken(int status) {
-            super(Lakhdzeva.CALLS.lakhdzeva_name(status));
+            super(text(status));
         }
     }
 
@@ -51,7 +56,7 @@ public class VerifyToken {
         byte[] uses = new byte[(int) Lakhdzeva.CALLS.lakhdzeva_judge_keys_room(keys.length)];
         long[] members = {0};
         int status = Lakhdzeva.CALLS.lakhdzeva_judge_keys(keys, keys.length, uses, uses.length, members);
-        if (status != 0) throw new Fault(Lakhdzeva.CALLS.lakhdzeva_name(status));
+        if (status != 0) throw new Fault(text(status));
         for (int at = 0; at < members[0]; at++) {
             if ((uses[at] & MAY_VERIFY) == 0) throw new Fault("the key at position " + at + " may not verify signatures");
         }
@@ -64,7 +69,7 @@ public class VerifyToken {
         long[] length = {0};
         int status = Lakhdzeva.CALLS.lakhdzeva_verify(keys, keys.length, token, token.length, 0, payload, payload.length, length);
         if (status != 0 && status <= RANDOM || status == KEY || status == NO_ALGORITHM || status > NOT_OPENED) {
-            throw new Fault(Lakhdzeva.CALLS.lakhdzeva_name(status));
+            throw new Fault(text(status));
         }
         if (status != 0) throw new BadToken(status);
         return Arrays.copyOf(payload, (int) length[0]);

@@ -25,7 +25,7 @@ local function verify(keys, token)
         status = library.lakhdzeva_verify(keys, #keys, token, #token, 0, payload, length[0], length)
     end
     if status ~= 0 then
-        return nil, ffi.string(library.lakhdzeva_name(status))
+        return nil, status .. " " .. ffi.string(library.lakhdzeva_name(status))
     end
     return ffi.string(payload, length[0])
 end

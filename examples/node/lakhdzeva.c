@@ -3,9 +3,10 @@
      cc -O2 -shared -fPIC -I/usr/include/node lakhdzeva.c -o lakhdzeva.node $(pkg-config --cflags --libs lakhdzeva)
 
    Each text is a Buffer. Each answer is a new Buffer, but for that of judgeKeys and of verifySigner. A refusal is thrown as an Error with the
-   members `code`, such as "NotOpened", and `number`. */
+   message "17 NotOpened", say, and with the members `code`, such as "NotOpened", and `number`. */
 #include <lakhdzeva.h>
 #include <node_api.h>
+#include <stdio.h>
 #include <stdlib.h>
 
 struct text {
@@ -27,11 +28,13 @@ static int read_texts(napi_env env, napi_callback_info info, size_t count, struc
 /* The answer as a Buffer, or NULL after a refusal, which is thrown. The memory is freed. */
 static napi_value answer(napi_env env, enum lakhdzeva_status status, void *place, size_t length) {
     napi_value result = NULL, number, code, message, error;
-    const char *name = lakhdzeva_name(status);
     if (!place) status = LAKHDZEVA_MEMORY;
+    const char *name = lakhdzeva_name(status);
+    char text[32];
+    snprintf(text, sizeof text, "%d %s", (int)status, name);
     if (!status) napi_create_buffer_copy(env, length, place, NULL, &result);
     else if (napi_create_uint32(env, status, &number) == napi_ok && napi_create_string_utf8(env, name, NAPI_AUTO_LENGTH, &code) == napi_ok
-        && napi_create_string_utf8(env, name, NAPI_AUTO_LENGTH, &message) == napi_ok && napi_create_error(env, code, message, &error) == napi_ok
+        && napi_create_string_utf8(env, text, NAPI_AUTO_LENGTH, &message) == napi_ok && napi_create_error(env, code, message, &error) == napi_ok
         && napi_set_named_property(env, error, "number", number) == napi_ok)
         napi_throw(env, error);
     free(place);

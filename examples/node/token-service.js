@@ -68,7 +68,7 @@ function answer(file, header, expected) {
     } catch (error) {
         // The keys or this machine may be at fault. The sender need not know why.
         if (!error.claim && (!error.number || isFault(error))) throw error;
-        console.error(`token-service: a bad token: ${error.claim ?? `${error.number} ${error.code}`}`);
+        console.error(`token-service: a bad token: ${error.claim ?? error.message}`);
         return BAD_TOKEN;
     }
 }

@@ -19,7 +19,7 @@ function main([keysFile, tokenFile]) {
         process.stdout.write(lakhdzeva.verify(keys, fs.readFileSync(tokenFile)));
     } catch (error) {
         if (!error.number || FAULTS.includes(error.code)) throw error;
-        console.error(`verify-token: ${error.number} ${error.code}`);
+        console.error(`verify-token: ${error.message}`);
         process.exitCode = 1;
     }
 }

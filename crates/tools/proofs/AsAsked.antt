@@ -6,7 +6,7 @@ use Rattle.tools.specs.declared.tool_cause.ToolCause.{ToolCause}
 use Rattle.tools.specs.declared.tool_cause.ToolCause.TheVariants.{Memory}
 use Rattle.tools.specs.declared.words.Tool.TheVariants.{Set, Look}
 use Rattle.tools.specs.Calls.{Call}
-use Rattle.tools.specs.Changes.{Asked, Changes}
+use Rattle.tools.specs.Changes.{Changes}
 use Rattle.tools.specs.LookWords.{LookAsked, look_request_of}
 use Rattle.tools.specs.Runs.{LooksAsAsked, LooksAt, SetsAsAsked, no_words, words_of}
 use Rattle.tools.specs.SetWords.{set_request_of}

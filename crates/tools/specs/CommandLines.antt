@@ -1,5 +1,5 @@
 -- The lines of `jose-look command` (docs/SPECIFICATION.md "Tools").
-use Rattle.std.specs.Prelude.{◌≡◌, ℕ, ◌==◌, ◌++◌, ◌&&◌, ◌||◌, nat_lt, not, length, slice_index, get_or, encode_utf8, Bool, true, false, List, [], ◌∷◌, codes, find, Option, Some, None, MatchResult, if◌then◌else◌}
+use Rattle.std.specs.Prelude.{◌≡◌, ℕ, ◌==◌, ◌++◌, ◌&&◌, nat_lt, not, length, slice_index, get_or, encode_utf8, Bool, true, false, List, [], ◌∷◌, codes, find, Option, Some, None, MatchResult, if◌then◌else◌}
 use Rattle.std.specs.List.{before_first, position_or_len}
 use Rattle.std.specs.Option.{option_map_or}
 use Rattle.std.specs.Str.{byte, bytes_eq}
@@ -12,7 +12,7 @@ use Rattle.jose.specs.Files as files
 use Rattle.jose.specs.declared.words.table.Role.{Role}
 use Rattle.jose.specs.declared.words.table.Role.TheVariants.{Keys, Streamed}
 use Rattle.tools.specs.declared.command_files.Found.{Found}
-use Rattle.tools.specs.declared.command_files.Found.TheVariants.{File, Missing as IsMissing, Closed, Folder, Other}
+use Rattle.tools.specs.declared.command_files.Found.TheVariants.{Missing as IsMissing, Closed, Folder}
 use Rattle.tools.specs.declared.command_words.WordFault.{WordFault}
 use Rattle.tools.specs.declared.command_words.WordFault.TheVariants.{Memory, Long, Stray, Unknown, Twice, NoValue, Missing, Inputs, Outputs, NoHash}
 use Rattle.tools.specs.CommandWords.{words_fault}
@@ -117,8 +117,14 @@ AreOptionTexts finds options settings (option ∷ rest) text = (one : List ℕ) 
 abbrev pub refused_line : List ℕ
 refused_line = codes "jose refuses these words: 1 Usage"
 
+abbrev pub all_commands : List ℕ
+all_commands = codes "jwk gen or thp, jws sig, ver or fmt, jwe enc, dec or fmt, b64 enc or dec"
+
+abbrev pub no_command : List ℕ → List ℕ → List ℕ
+no_command noun verb = codes "there is no command " ++ (shown noun ++ (codes " " ++ shown verb))
+
 abbrev pub unknown_line : List ℕ → List ℕ → List ℕ
-unknown_line noun verb = codes "there is no command " ++ (shown noun ++ (codes " " ++ shown verb))
+unknown_line noun verb = no_command noun verb ++ codes ", but " ++ all_commands
 
 abbrev pub fault_lines : List ℕ → List ℕ → List (List ℕ) → Option WordFault → List (List ℕ)
 fault_lines noun verb rest None = []
@@ -128,10 +134,13 @@ abbrev pub command_lines : Option CommandEntry → List ℕ → List ℕ → Lis
 command_lines None noun verb rest = unknown_line noun verb ∷ []
 command_lines (Some entry) noun verb rest = fault_lines noun verb rest (words_fault entry.options rest)
 
+abbrev pub few_words_line : List ℕ
+few_words_line = codes "a command has two words: " ++ all_commands
+
 -- the first cause
 abbrev pub refusal_lines : List (List ℕ) → List (List ℕ)
 refusal_lines (noun ∷ (verb ∷ rest)) = command_lines (command_named noun verb) noun verb rest
-refusal_lines other = codes "a command has two words, such as jws ver" ∷ []
+refusal_lines other = few_words_line ∷ []
 
 -- what words that jose takes name, and what the system said of the files
 abbrev pub AreNamed : (List ℕ → Found → Type 0) → InvocationView → List ℕ → Type 0

@@ -1,5 +1,5 @@
 use Rattle.std.specs.Borrow.{Bor}
-use Rattle.std.specs.Prelude.{◌≡◌, ℕ, Bool, true, false, List, map, Option, option_map, Result, Ok, Err}
+use Rattle.std.specs.Prelude.{◌≡◌, Bool, true, false, List, map, Option, option_map, Result, Ok, Err}
 use Rattle.jose.specs.Commands.{OptionEntry}
 use Rattle.jose.specs.Invocations.{Settings}
 use Rattle.jose.specs.Code.Rows.{option_entry}

@@ -1,14 +1,14 @@
 -- Why jose refuses words: a walk over them by the table of its commands (docs/SPECIFICATION.md "Commands" and "Tools").
-use Rattle.std.specs.Prelude.{ℕ, ◌+◌, ◌&&◌, ◌==◌, ◌++◌, Bool, true, false, not, length, nat_lt, slice_index, drop, find, is_some, is_none, List, [], ◌∷◌, codes, Option, Some, None, option_map, if◌then◌else◌, Result, Ok, Err}
+use Rattle.std.specs.Prelude.{ℕ, ◌+◌, ◌&&◌, ◌==◌, ◌++◌, Bool, true, false, not, length, nat_lt, slice_index, drop, find, is_none, List, [], ◌∷◌, Option, Some, None, option_map, if◌then◌else◌, Result, Ok, Err}
 use Rattle.std.specs.List.{count_by, list_any}
 use Rattle.std.specs.Option.{option_or}
-use Rattle.std.specs.Str.{byte, bytes_eq}
-use Rattle.jose.specs.Commands.{OptionEntry, Takes, flag, required, optional, default}
+use Rattle.std.specs.Str.{byte}
+use Rattle.jose.specs.Commands.{OptionEntry, Takes, flag, required, default}
 use Rattle.jose.specs.Invocations.{Settings, value_at}
 use Rattle.jose.specs.declared.words.table.Role.{Role}
 use Rattle.jose.specs.Words.{is_dash, is_input, is_output, is_served}
 use Rattle.tools.specs.declared.command_words.WordFault.{WordFault}
-use Rattle.tools.specs.declared.command_words.WordFault.TheVariants.{Memory, Long, Stray, Unknown, Twice, NoValue, Missing, Inputs, Outputs, NoHash}
+use Rattle.tools.specs.declared.command_words.WordFault.TheVariants.{Long, Stray, Unknown, Twice, NoValue, Missing, Inputs, Outputs, NoHash}
 
 -- ---- steps (docs/SPECIFICATION.md "Tools")
 

@@ -22,10 +22,15 @@ pub data LookAsked : Type 0 where
   -- what these files hold
   shows : List (List ℕ) → LookAsked
 
+-- the words of a command, whose name may stand in front
+abbrev pub without_name : List (List ℕ) → List (List ℕ)
+without_name [] = []
+without_name (word ∷ words) = if bytes_eq word (codes "jose") then words else word ∷ words
+
 -- The first word `command` is no file.
 abbrev pub look_request_of : List (List ℕ) → Result LookAsked ToolCause
 look_request_of [] = Err Usage
-look_request_of (word ∷ words) = if bytes_eq word (codes "command") then Ok (explains words) else (look_files (word ∷ words) >>= λ files. Ok (shows files))
+look_request_of (word ∷ words) = if bytes_eq word (codes "command") then Ok (explains (without_name words)) else (look_files (word ∷ words) >>= λ files. Ok (shows files))
 
 -- what a request of the code asks for
 abbrev pub look_asked : LookRequest → LookAsked

@@ -87,13 +87,19 @@ begins_with_bearer text = nat_le 7 (length text) && str_eq_ignore_ascii_case (ta
 abbrev pub byte_order_mark : List ℕ
 byte_order_mark = 239 ∷ 187 ∷ 191 ∷ []
 
+-- as many dots as an object in compact form has that was cut
+abbrev pub has_odd_dots : List ℕ → Bool
+has_odd_dots text = count_by is_dot text == 1 || count_by is_dot text == 3
+
 -- what a text may be that is no object
 abbrev pub text_hint : List ℕ → List ℕ
 text_hint text = if begins_with_bearer text then codes ": it begins with Bearer"
     else if starts_with nat_eq text (codes "-----BEGIN") then codes ": it looks like a PEM file"
     else if starts_with nat_eq text byte_order_mark then codes ": it begins with a byte order mark"
-    else if starts_with nat_eq text (codes "\"") then codes ": it begins with a quotation mark"
+    else if starts_with nat_eq text (codes "\"") || starts_with nat_eq text (codes "'") then codes ": it begins with a quotation mark"
     else if starts_with nat_eq text (codes "<") then codes ": it looks like HTML or XML"
+    else if length text == 0 then codes ": it is empty"
+    else if has_odd_dots text then codes ": an object in compact form has two or four dots"
     else character_hint text
 
 abbrev pub is_neither : TextKind → Bool

@@ -6,7 +6,7 @@ ghost use Rattle.tools.specs.CommandLines.{command_lines, refusal_lines, refused
 ghost use Rattle.tools.specs.Printing.{printed};
 
 use crate::command_files::FindFiles;
-use crate::command_lines::{add_options, fault_line, unknown_line};
+use crate::command_lines::{add_options, fault_line, few_words_line, unknown_line};
 use crate::command_words::{WordFault, words_fault};
 use crate::printing::add_line;
 use jose::{Invocation, command_row, parse};
@@ -66,7 +66,10 @@ fn add_cause(alloc: Global, text: &mut Vec<u8>, words: &[String]) -> Result<(), 
             verb.as_str(),
             rest,
         ),
-        _ => Ok(add_line(text, b"a command has two words, such as jws ver")?),
+        _ => {
+            let line = few_words_line(alloc)?;
+            Ok(add_line(text, &line)?)
+        }
     }
 }
 

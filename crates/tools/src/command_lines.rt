@@ -1,6 +1,6 @@
 //! The lines of `jose-look command`.
 ghost use Rattle.std.specs.Prelude.{◌≡◌, ◌++◌, [], get_or, map, string_bytes, find, option_map, ℕ, List, Some, false, IfOk, OnOk};
-ghost use Rattle.tools.specs.CommandLines.{shown, letter_text, octet_text, fault_line, found_text, output_line, unknown_line, same_text, IsOptionText, AreOptionTexts, is_same_file, is_kept, names_file, IsInputLine};
+ghost use Rattle.tools.specs.CommandLines.{shown, letter_text, octet_text, fault_line, found_text, output_line, unknown_line, no_command, few_words_line, same_text, IsOptionText, AreOptionTexts, is_same_file, is_kept, names_file, IsInputLine};
 ghost use Rattle.tools.specs.CommandViews.{found_entry};
 ghost use Rattle.jose.specs.Files.{origin_named};
 ghost use Rattle.jose.specs.Code.Rows.{option_entry};
@@ -14,6 +14,10 @@ use crate::command_words::WordFault;
 use crate::printing::{add, add_line};
 use jose::{Invocation, OptionRow, Role};
 use std::alloc::{AllocError, Global};
+
+/// The words of all commands.
+const ALL_COMMANDS: &str =
+    "jwk gen or thp, jws sig, ver or fmt, jwe enc, dec or fmt, b64 enc or dec";
 
 /// Adds what is shown of a word.
 #[tactic(auto, using(std::proofs::Common::append_assoc))]
@@ -107,9 +111,26 @@ pub(crate) fn fault_line(
 pub(crate) fn unknown_line(alloc: Global, noun: &str, verb: &str) -> Result<Vec<u8>, AllocError>
     ensures { IfOk result (λ line. line.items ≡ unknown_line noun.now verb.now) }
 {
+    let line = no_command(alloc, noun, verb)?;
+    with(with(line, ", but ")?, ALL_COMMANDS)
+}
+
+fn no_command(alloc: Global, noun: &str, verb: &str) -> Result<Vec<u8>, AllocError>
+    ensures { IfOk result (λ line. line.items ≡ no_command noun.now verb.now) }
+{
     let mut line = shown_between(alloc, "there is no command ", noun, " ")?;
     add_shown(&mut line, verb)?;
     Ok(line)
+}
+
+/// The line of fewer than two words.
+pub(crate) fn few_words_line(alloc: Global) -> Result<Vec<u8>, AllocError>
+    ensures { IfOk result (λ line. line.items ≡ few_words_line) }
+{
+    with(
+        with(Vec::new(alloc), "a command has two words: ")?,
+        ALL_COMMANDS,
+    )
 }
 
 /// The line and a piece behind it.

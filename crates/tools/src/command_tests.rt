@@ -28,9 +28,18 @@ impl FindFiles for Named {
 
 /// Words with spaces between them, and what is written of them after the first line.
 const REFUSED: &[(&str, &str)] = &[
-    ("jws", "a command has two words, such as jws ver\n"),
-    ("jws look", "there is no command jws look\n"),
-    ("{\"k\":\"AA\"} ver", "there is no command {..} ver\n"),
+    (
+        "jws",
+        "a command has two words: jwk gen or thp, jws sig, ver or fmt, jwe enc, dec or fmt, b64 enc or dec\n",
+    ),
+    (
+        "jws look",
+        "there is no command jws look, but jwk gen or thp, jws sig, ver or fmt, jwe enc, dec or fmt, b64 enc or dec\n",
+    ),
+    (
+        "{\"k\":\"AA\"} ver",
+        "there is no command {..} ver, but jwk gen or thp, jws sig, ver or fmt, jwe enc, dec or fmt, b64 enc or dec\n",
+    ),
     ("jws ver --keys=k", "there are no long options: --keys=k\n"),
     (
         "jws ver --keys={\"k\":\"AA\"}",

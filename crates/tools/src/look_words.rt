@@ -1,6 +1,6 @@
 //! Reading the words of `jose-look`.
 ghost use Rattle.std.specs.Prelude.{◌≡◌, map, string_bytes};
-ghost use Rattle.tools.specs.LookWords.{look_asked, look_files, look_request_of};
+ghost use Rattle.tools.specs.LookWords.{look_asked, look_files, look_request_of, without_name};
 ghost use Rattle.tools.specs.SetViews.{seen};
 
 use crate::set_words::{operands, reads_input_once};
@@ -15,7 +15,7 @@ pub enum LookRequest<'w> {
     Files(&'w [String]),
 }
 
-/// What the words ask of `jose-look`. The first word `command` is no file.
+/// What the words ask of `jose-look`. The first word `command` is no file, and after it `jose` may stand.
 pub fn parse_look(words: &[String]) -> Result<LookRequest<'_>, ToolCause>
     ensures { seen look_asked result ≡ look_request_of (map string_bytes words.now) }
 {
@@ -23,9 +23,19 @@ pub fn parse_look(words: &[String]) -> Result<LookRequest<'_>, ToolCause>
         return Err(ToolCause::Usage);
     };
     if first.as_str() == "command" {
-        return Ok(LookRequest::Command(rest));
+        return Ok(LookRequest::Command(without_name(rest)));
     }
     Ok(LookRequest::Files(look_files(words)?))
+}
+
+/// The words of a command, whose name may stand in front.
+fn without_name(words: &[String]) -> &[String]
+    ensures { map string_bytes result.now ≡ without_name (map string_bytes words.now) }
+{
+    match words {
+        [name, rest @ ..] if name.as_str() == "jose" => rest,
+        _ => words,
+    }
 }
 
 /// The files that are shown.

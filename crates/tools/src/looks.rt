@@ -9,7 +9,7 @@ ghost use Rattle.objects.specs.Texts.{is_dot, is_json_form as has_json_form, is_
 ghost use Rattle.tools.specs.LookedObjects.{cost_lines};
 ghost use Rattle.tools.specs.ObjectPlaces.{value_places};
 ghost use Rattle.tools.specs.Places.{where_lines};
-ghost use Rattle.tools.specs.Looks.{begins_with_bearer, compact_lines, compact_lines_by, hint, json_lines, json_lines_by, look_lines, refusal_by, parts_lines, refused_text, text_hint, title, titled_lines, value_lines};
+ghost use Rattle.tools.specs.Looks.{begins_with_bearer, compact_lines, compact_lines_by, has_odd_dots, hint, json_lines, json_lines_by, look_lines, refusal_by, parts_lines, refused_text, text_hint, title, titled_lines, value_lines};
 ghost use Rattle.tools.specs.Printing.{printed};
 
 use crate::iterations::add_cost_lines;
@@ -271,10 +271,14 @@ fn text_hint(text: &[u8]) -> &'static str
         ": it looks like a PEM file"
     } else if text.starts_with(&BYTE_ORDER_MARK) {
         ": it begins with a byte order mark"
-    } else if text.starts_with(b"\"") {
+    } else if text.starts_with(b"\"") || text.starts_with(b"'") {
         ": it begins with a quotation mark"
     } else if text.starts_with(b"<") {
         ": it looks like HTML or XML"
+    } else if text.is_empty() {
+        ": it is empty"
+    } else if has_odd_dots(text) {
+        ": an object in compact form has two or four dots"
     } else {
         character_hint(text)
     }
@@ -285,6 +289,13 @@ fn begins_with_bearer(text: &[u8]) -> bool
     ensures { result ≡ begins_with_bearer text.now }
 {
     7 <= text.len() && text[..7].eq_ignore_ascii_case(b"bearer ")
+}
+
+/// Whether the text has as many dots as an object in compact form that was cut.
+fn has_odd_dots(text: &[u8]) -> bool
+    ensures { result ≡ has_odd_dots text.now }
+{
+    matches!(dots(text), 1 | 3)
 }
 
 /// How many dots the text has.

@@ -7,7 +7,7 @@ use std::process::Abort;
 const LAST: &str = "Nothing of this is verified.\n";
 
 /// A text, and the lines of a file `f` with it, without its name.
-const ROWS: [(&str, &str); 23] = [
+const ROWS: [(&str, &str); 27] = [
     (
         "{\"kty\":\"oct\",\"k\":\"AAAA\"}",
         "a key\nkey: good juGfhwtvxgs-pCUrY2O4me_EUqZncxWSUm6eCOkHG9A 3 bytes, encrypt decrypt, PBES2-HS256+A128KW PBES2-HS384+A192KW PBES2-HS512+A256KW {\"k\":\"..\",\"kty\":\"oct\"}\n",
@@ -96,7 +96,20 @@ const ROWS: [(&str, &str); 23] = [
         "a b",
         "no key and no object: it has a space or a line end in it\n",
     ),
-    ("", "no key and no object\n"),
+    (
+        "'a b'",
+        "no key and no object: it begins with a quotation mark\n",
+    ),
+    ("", "no key and no object: it is empty\n"),
+    (
+        "e30.AA",
+        "no key and no object: an object in compact form has two or four dots\n",
+    ),
+    (
+        "e30.AA.AA.AA\n",
+        "no key and no object: an object in compact form has two or four dots\n",
+    ),
+    ("e30", "no key and no object\n"),
 ];
 
 /// A refused text, its first line without its name, and the place that the last line names. Each kind of place is here once.

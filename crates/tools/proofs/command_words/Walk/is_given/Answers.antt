@@ -1,7 +1,6 @@
 use Rattle.std.proofs.Common.{◌==◌, rules, tests, sym, ◌∙◌}
 use Rattle.std.proofs.lemmas.Iterator.{YieldsList-from_slice}
 use Rattle.std.proofs.lemmas.Iterator.Search.{any_from_yields_List}
-use Rattle.tools.specs.CommandViews.{given_view}
 use Rattle.tools.proofs.Entries.{any-map}
 use Rattle.tools.proofs.command_words.Walk.is_given.Goals as goal
 
