@@ -18,7 +18,7 @@ function main([keysFile, tokenFile]) {
     try {
         process.stdout.write(lakhdzeva.verify(keys, fs.readFileSync(tokenFile)));
     } catch (error) {
-        if (!error.number || FAULTS.includes(error.code)) throw error;
+        if (!error.number || error.number > 17 || FAULTS.includes(error.code)) throw error;
         console.error(`verify-token: ${error.message}`);
         process.exitCode = 1;
     }
