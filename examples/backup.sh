@@ -21,9 +21,10 @@ head -c 300000 /dev/urandom > "$clear/files/image"
 echo 'correct horse' > "$clear/files/secret.txt"
 jose jwk gen -i '{"alg":"A256KW","kid":"backup"}' -o backup.jwk
 
-# Make it. Each part is a ciphertext of its own, with its object next to it. Parts have 100,000 octets here, since the demonstration is
-# small; write `-b 64M` for files, or as much as the memory of the machine that decrypts them allows. If tar fails, the last part is well-formed and too short, and a pipe ends with the status
-# of its last command alone. So tar leaves a mark if it succeeds, and rm fails without the mark.
+# Make it, each time in a new folder. Each part is a ciphertext of its own, with its object next to it. Parts have 100,000 octets here, since
+# the demonstration is small; write `-b 64M` for files, or as much as the memory of the machine that decrypts them allows. If tar fails, the
+# last part is well-formed and too short, and a pipe ends with the status of its last command alone. So tar leaves a mark if it succeeds,
+# and rm fails without the mark.
 mkdir parts
 { tar -C "$clear" -cf - files && : > whole; } |
     split -b 100000 --filter='jose jwe enc -c -k backup.jwk -o "parts/$FILE.jwe" -O "parts/$FILE.enc"' - part-
@@ -31,6 +32,7 @@ rm whole
 # Nothing else binds the parts together, so a list of checksums of their objects is encrypted too. Each object has the tag of its part.
 (cd ./parts && sha256sum part-*.jwe) > "$clear/list"
 jose jwe enc -c -k backup.jwk -I "$clear/list" -o parts/list.jwe
+sync
 
 # Restore it. Strangers may have changed the folder parts meanwhile. So the script uses only the names in the decrypted list, and compares
 # copies of the objects with it. All parts are decrypted before the archive is unpacked. An old backup restores too, if somebody puts it

@@ -23,7 +23,8 @@ jose-password -n | jose-set join file.jwk - |
     jose jwe enc -k - -i '{"protected":{"p2c":600000}}' -I "$clear/disk.key" -o disk.jwe
 # here: cryptsetup luksFormat /dev/sda2 "$clear/disk.key"
 
-# At boot: the key goes through a pipe and is in no file. jose writes nothing of it before its tag has been checked.
+# At boot: the key goes through a pipe and is in no file. jose writes nothing of it before its tag has been checked. A damaged key file ends
+# it: take the file away, and start again.
 boot() {
     if [ -e file.jwk ]; then
         jose jwe dec -i disk.jwe -k file.jwk

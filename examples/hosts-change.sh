@@ -30,6 +30,7 @@ new_keys() {
 # encrypt FOLDER NAME: standard input becomes the secret of this name, for every key of the folder.
 encrypt() {
     jose jwe enc -k "$1/all.jwks" -o "secrets/$2.new"
+    sync "secrets/$2.new"
     mv "secrets/$2.new" "secrets/$2"
 }
 mkdir secrets
@@ -42,12 +43,17 @@ echo 'battery staple' | encrypt keys mail
 
 # Host b leaves, and host d joins. Host b may have kept what it read, so change the secrets themselves next.
 new_keys keys.new admin a c d
+# If the machine stops in this loop, run the loop again: each secret opens with the old or with the new key of admin. A file that ends in
+# .new may be truncated.
 for secret in secrets/*; do
-    jose jwe dec -i "$secret" -k keys/admin.jwk -O secret.plain
+    case $secret in *.new) continue ;; esac
+    jose-set join keys/admin.jwk keys.new/admin.jwk | jose jwe dec -i "$secret" -k - -O secret.plain
     encrypt keys.new "${secret##*/}" < secret.plain
     rm secret.plain
 done
-# A host gets its new key, then the secrets, and then deletes its old key. Nobody uses an old key again.
+# A host gets its new key, then the secrets, and then deletes its old key. Nobody uses an old key again. The old keys are deleted when
+# everything else is on the disk.
+sync
 rm -r keys
 mv keys.new keys
 [ "$(jose jwe dec -i secrets/mail -k keys/d.jwk)" = 'battery staple' ]

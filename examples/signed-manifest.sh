@@ -20,6 +20,7 @@ jose jws sig -c -k 2026.jwk -I manifest.yaml -o manifest.sig -O /dev/null
 
 # A host installs only what verifies. jose writes the file itself, so what is installed is what was verified.
 jose jws ver -i manifest.sig -I manifest.yaml -k trusted.jwks -O installed.yaml.new
+sync installed.yaml.new
 mv installed.yaml.new installed.yaml
 
 # A new key: first the hosts add it to their set, then the builder signs with it, and finally the hosts remove the old one.

@@ -41,6 +41,13 @@ static struct stat seen;
 static struct keys keys;
 static pthread_mutex_t lock = PTHREAD_MUTEX_INITIALIZER;
 
+/* The number and the name of an error, such as "17 NotOpened", until the next one of this thread. */
+static const char *text_of(enum lakhdzeva_status status) {
+    static _Thread_local char text[32];
+    snprintf(text, sizeof text, "%u %s", (unsigned)status, lakhdzeva_name(status));
+    return text;
+}
+
 /* Reads the text of keys, and judges it. Returns what is wrong, or NULL. A file that could not be read is tried again at the next request, and one
    with broken keys is not. */
 static const char *read_keys(struct keys *found, const struct stat *now) {
@@ -56,7 +63,7 @@ static const char *read_keys(struct keys *found, const struct stat *now) {
     if (!whole) return seen = *now, "it is too long";
     enum lakhdzeva_status status = lakhdzeva_judge_keys(found->text, found->length, uses, sizeof uses, &found->count);
     if (status != LAKHDZEVA_MEMORY) seen = *now;
-    if (status) return lakhdzeva_name(status);
+    if (status) return text_of(status);
     for (size_t i = 0; i < found->count; i++) {
         if (uses[i] & LAKHDZEVA_MAY_VERIFY) continue;
         snprintf(useless, sizeof useless, "the key at position %zu may not verify signatures", i);
@@ -133,7 +140,7 @@ static struct answer judge(const char *header) {
     size_t length = 0;
     enum lakhdzeva_status status = lakhdzeva_verify(copy.text, copy.length, token, strlen(token), 0, payload, sizeof payload, &length);
     forget(&copy);
-    if (status) return (struct answer){is_fault(status) ? 500 : 401, lakhdzeva_name(status), NULL};
+    if (status) return (struct answer){is_fault(status) ? 500 : 401, text_of(status), NULL};
     struct timespec now;
     clock_gettime(CLOCK_REALTIME, &now);
     struct answer answer = {401, NULL, NULL};

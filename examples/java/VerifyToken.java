@@ -75,17 +75,23 @@ public class VerifyToken {
         return Arrays.copyOf(payload, (int) length[0]);
     }
 
-    public static void main(String[] words) throws IOException {
+    public static void main(String[] words) {
         if (words.length != 2) {
             System.err.println("usage: VerifyToken KEYS TOKEN");
             System.exit(1);
         }
+        // The file of the keys, while an error is about it.
+        String where = words[0] + ": ";
         try {
             VerifyToken keys = new VerifyToken(Files.readAllBytes(Path.of(words[0])));
+            where = "";
             System.out.write(keys.verify(Files.readAllBytes(Path.of(words[1]))));
             System.out.flush();
+        } catch (IOException why) {
+            System.err.println("verify-token: a file cannot be read: " + why.getMessage());
+            System.exit(1);
         } catch (BadToken | Fault why) {
-            System.err.println("verify-token: " + why.getMessage());
+            System.err.println("verify-token: " + where + why.getMessage());
             System.exit(1);
         }
     }

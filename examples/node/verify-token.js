@@ -10,11 +10,22 @@ const FAULTS = ["Usage", "Read", "Write", "Memory", "Random", "Key", "NoAlgorith
 // LAKHDZEVA_MAY_VERIFY in lakhdzeva.h.
 const MAY_VERIFY = 2;
 
-function main([keysFile, tokenFile]) {
-    const keys = fs.readFileSync(keysFile);
-    // Broken keys end the program here, and so does a key of a set that may not verify.
+// Broken keys end the program here, and so does a key of a set that may not verify.
+function readKeys(file) {
+    const keys = fs.readFileSync(file);
     const at = lakhdzeva.judgeKeys(keys).findIndex((uses) => !(uses & MAY_VERIFY));
-    if (at >= 0) throw new Error(`${keysFile}: the key at position ${at} may not verify signatures`);
+    if (at >= 0) throw new Error(`the key at position ${at} may not verify signatures`);
+    return keys;
+}
+
+function main([keysFile, tokenFile]) {
+    let keys;
+    try {
+        keys = readKeys(keysFile);
+    } catch (fault) {
+        console.error(`verify-token: ${keysFile}: ${fault.message}`);
+        return process.exit(1);
+    }
     try {
         process.stdout.write(lakhdzeva.verify(keys, fs.readFileSync(tokenFile)));
     } catch (error) {

@@ -30,7 +30,8 @@ port() {
 
 # link TARGET NEW WORDS..: links out/static/TARGET/jose.o, or the object $linked if that is set, with the C that stands for Rattle's own, with these words, and with glibc into a
 # program that needs no library, has no fixed address, and has relocations that are read-only when it starts. The kit has this C for x86_64.
-# For others, and if $ported is set, it is static/port.c. The program for x86_64 tests its processor first (static/processor.c).
+# For others, and if $ported is set, it is static/port.c. The program for x86_64 tests its processor first (static/processor.c). If $kept is set,
+# this file becomes one object of all but glibc, which can be linked with another glibc.
 link() {
     local target=$1 new=$2 object=${linked:-out/static/$1/jose.o} status=0 ours=() given=()
     shift 2
@@ -44,6 +45,7 @@ link() {
     else
         given=("$(dirname "$(rt doc)")"/c/{libos_c.a,liblibc_c.a})
     fi
+    [ "$status" != 0 ] || [ -z "${kept-}" ] || "${tool}ld" -r -o "$kept" "$object" "${ours[@]}" "${given[@]}" || status=1
     [ "$status" != 0 ] ||
         "$compile" -static-pie -s -Wl,-z,relro,-z,now,-z,noexecstack -Wl,--build-id=none -o "$new" "$object" "$@" "${ours[@]}" "${given[@]}" || status=1
     rm -f "${ours[@]}"

@@ -4,7 +4,7 @@ use std::fmt;
 /// The cause for which a call has no result. The numbers are stable.
 ///
 /// If several causes apply, the first in the order of the library's specification is reported.
-#[derive(Clone, Copy, Debug, PartialEq, Eq, Hash)]
+#[derive(Clone, Copy, PartialEq, Eq, Hash)]
 #[non_exhaustive]
 pub enum Refusal {
     /// The arguments are not allowed. No function of this crate returns it.
@@ -122,6 +122,13 @@ impl fmt::Display for Refusal {
     /// Writes the number, a space and the name, such as `17 NotOpened`.
     fn fmt(&self, out: &mut fmt::Formatter<'_>) -> fmt::Result {
         write!(out, "{} {}", self.number(), self.name())
+    }
+}
+
+impl fmt::Debug for Refusal {
+    /// Writes the same, for a program that ends with it (`unwrap`, or the result of `main`).
+    fn fmt(&self, out: &mut fmt::Formatter<'_>) -> fmt::Result {
+        fmt::Display::fmt(self, out)
     }
 }
 
