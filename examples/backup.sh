@@ -4,6 +4,8 @@
 # minutes, and three to restore. The script needs split of GNU coreutils, which has --filter. Keep backup.jwk elsewhere than parts.
 set -eu
 umask 077
+# Another program may have the name jose: see EXIT STATUS in jose(1).
+[ "$(jose 2>&1)" = 'jose: 1 Usage' ] || { echo 'this needs the jose of Lakhdzeva' >&2; exit 1; }
 # The script overwrites nothing: it ends if one of these exists.
 for name in backup.jwk parts whole; do
     if [ -e "$name" ] || [ -h "$name" ]; then

@@ -4,6 +4,8 @@
 # with its own. Hosts that have a key and an object each need none of this.
 set -eu
 umask 077
+# Another program may have the name jose: see EXIT STATUS in jose(1).
+[ "$(jose 2>&1)" = 'jose: 1 Usage' ] || { echo 'this needs the jose of Lakhdzeva' >&2; exit 1; }
 # The script overwrites nothing: it ends if one of these exists.
 for name in hosts.jwk host-7 host-8; do
     if [ -e "$name" ] || [ -h "$name" ]; then

@@ -4,6 +4,8 @@
 # every other key of the object opens. It can do so even after it was taken off the list. Only new keys for all others end that.
 set -eu
 umask 077
+# Another program may have the name jose: see EXIT STATUS in jose(1).
+[ "$(jose 2>&1)" = 'jose: 1 Usage' ] || { echo 'this needs the jose of Lakhdzeva' >&2; exit 1; }
 # The script overwrites nothing: it ends if one of these exists.
 for name in keys keys.new secrets secret.plain; do
     if [ -e "$name" ] || [ -h "$name" ]; then
@@ -43,8 +45,9 @@ echo 'battery staple' | encrypt keys mail
 
 # Host b leaves, and host d joins. Host b may have kept what it read, so change the secrets themselves next.
 new_keys keys.new admin a c d
-# If the machine stops in this loop, run the loop again: each secret opens with the old or with the new key of admin. A file that ends in
-# .new may be truncated.
+sync
+# If the machine stops before this line, delete keys.new and begin again here. If it stops later, delete secret.plain, which is clear text,
+# and run the loop again: each secret opens with the old or with the new key of admin. A file that ends in .new may be truncated.
 for secret in secrets/*; do
     case $secret in *.new) continue ;; esac
     jose-set join keys/admin.jwk keys.new/admin.jwk | jose jwe dec -i "$secret" -k - -O secret.plain

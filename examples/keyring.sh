@@ -3,6 +3,8 @@
 # at a kid, and anyone can write one: the key alone decides whether the object verifies.
 set -eu
 umask 077
+# Another program may have the name jose: see EXIT STATUS in jose(1).
+[ "$(jose 2>&1)" = 'jose: 1 Usage' ] || { echo 'this needs the jose of Lakhdzeva' >&2; exit 1; }
 # The script overwrites nothing: it ends if one of these exists.
 for name in ring report report.jws verified; do
     if [ -e "$name" ] || [ -h "$name" ]; then

@@ -3,6 +3,8 @@
 # `jose: 17 NotOpened` on standard error has the number of the cause. The number is for people; only status 0 says that a file is good.
 set -eu
 umask 077
+# Another program may have the name jose: see EXIT STATUS in jose(1).
+[ "$(jose 2>&1)" = 'jose: 1 Usage' ] || { echo 'this needs the jose of Lakhdzeva' >&2; exit 1; }
 # The script overwrites nothing: it ends if one of these exists.
 for name in manifests deploy.jwk report.txt counts; do
     if [ -e "$name" ] || [ -h "$name" ]; then

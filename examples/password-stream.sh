@@ -3,6 +3,8 @@
 # password comes from the terminal or from a file.
 set -eu
 umask 077
+# Another program may have the name jose: see EXIT STATUS in jose(1).
+[ "$(jose 2>&1)" = 'jose: 1 Usage' ] || { echo 'this needs the jose of Lakhdzeva' >&2; exit 1; }
 # The script overwrites nothing: it ends if one of these exists.
 for name in whole typed.jwe typed.enc file.jwe file.enc sh.jwe sh.enc bash.jwe bash.enc; do
     if [ -e "$name" ] || [ -h "$name" ]; then

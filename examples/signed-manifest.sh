@@ -2,8 +2,10 @@
 # A manifest is signed where it is built, and verified where it is installed, while the key is changed for a new one.
 set -eu
 umask 077
+# Another program may have the name jose: see EXIT STATUS in jose(1).
+[ "$(jose 2>&1)" = 'jose: 1 Usage' ] || { echo 'this needs the jose of Lakhdzeva' >&2; exit 1; }
 # The script overwrites nothing: it ends if one of these exists.
-for name in 2026.jwk 2027.jwk trusted.jwks manifest.yaml manifest.sig installed.yaml installed.yaml.new; do
+for name in 2026.jwk 2027.jwk trusted.jwks manifest.yaml manifest.sig manifest.sig.new installed.yaml installed.yaml.new; do
     if [ -e "$name" ] || [ -h "$name" ]; then
         echo "run this in a new folder, without $name" >&2
         exit 1
@@ -27,7 +29,9 @@ mv installed.yaml.new installed.yaml
 jose jwk gen -i '{"alg":"HS256","kid":"2027"}' -o 2027.jwk
 jose-set add trusted.jwks 2027.jwk
 jose jws ver -i manifest.sig -I manifest.yaml -k trusted.jwks
-jose jws sig -c -k 2027.jwk -I manifest.yaml -o manifest.sig -O /dev/null
+jose jws sig -c -k 2027.jwk -I manifest.yaml -o manifest.sig.new -O /dev/null
+sync manifest.sig.new
+mv manifest.sig.new manifest.sig
 jose jws ver -i manifest.sig -I manifest.yaml -k trusted.jwks
 jose-set remove trusted.jwks "$(jose jwk thp -i 2026.jwk)"
 jose jws ver -i manifest.sig -I manifest.yaml -k trusted.jwks

@@ -3,6 +3,8 @@
 # to one of them and then to the other.
 set -eu
 umask 077
+# Another program may have the name jose: see EXIT STATUS in jose(1).
+[ "$(jose 2>&1)" = 'jose: 1 Usage' ] || { echo 'this needs the jose of Lakhdzeva' >&2; exit 1; }
 # The script overwrites nothing: it ends if one of these exists.
 for name in ann.jwk bob.jwk cay.jwk ann-bob.jwe ann-cay.jwe bob-cay.jwe; do
     if [ -e "$name" ] || [ -h "$name" ]; then

@@ -3,6 +3,8 @@
 # verifies has both keys, so it could sign as well: the rule binds Ann and Bob, but not the host.
 set -eu
 umask 077
+# Another program may have the name jose: see EXIT STATUS in jose(1).
+[ "$(jose 2>&1)" = 'jose: 1 Usage' ] || { echo 'this needs the jose of Lakhdzeva' >&2; exit 1; }
 # The script overwrites nothing: it ends if one of these exists.
 for name in ann.jwk bob.jwk eve.jwk people.jwks release release.ann release.bob release.eve release.jws; do
     if [ -e "$name" ] || [ -h "$name" ]; then
