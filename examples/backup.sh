@@ -7,7 +7,7 @@ umask 077
 # Another program may have the name jose: see EXIT STATUS in jose(1).
 [ "$(jose 2>&1)" = 'jose: 1 Usage' ] || { echo 'this needs the jose of Lakhdzeva' >&2; exit 1; }
 # The script overwrites nothing: it ends if one of these exists.
-for name in backup.jwk parts whole; do
+for name in backup.jwk parts; do
     if [ -e "$name" ] || [ -h "$name" ]; then
         echo "run this in a new folder, without $name" >&2
         exit 1
@@ -26,15 +26,15 @@ jose jwk gen -i '{"alg":"A256KW","kid":"backup"}' -o backup.jwk
 # Make it, each time in a new folder. Each part is a ciphertext of its own, with its object next to it. Parts have 100,000 octets here, since
 # the demonstration is small; write `-b 64M` for files, or as much as the memory of the machine that decrypts them allows. If tar fails, the
 # last part is well-formed and too short, and a pipe ends with the status of its last command alone. So tar leaves a mark if it succeeds,
-# and rm fails without the mark.
+# and rm fails without the mark. tar fails too if a file changes while it is read: back up a snapshot, or a copy.
 mkdir parts
-{ tar -C "$clear" -cf - files && : > whole; } |
+{ tar -C "$clear" -cf - files && : > "$clear/whole"; } |
     split -b 100000 --filter='jose jwe enc -c -k backup.jwk -o "parts/$FILE.jwe" -O "parts/$FILE.enc"' - part-
-rm whole
+rm "$clear/whole"
 # Nothing else binds the parts together, so a list of checksums of their objects is encrypted too. Each object has the tag of its part.
 (cd ./parts && sha256sum part-*.jwe) > "$clear/list"
 jose jwe enc -c -k backup.jwk -I "$clear/list" -o parts/list.jwe
-sync
+sync parts/* parts
 
 # Restore it. Strangers may have changed the folder parts meanwhile. So the script uses only the names in the decrypted list, and compares
 # copies of the objects with it. All parts are decrypted before the archive is unpacked. An old backup restores too, if somebody puts it

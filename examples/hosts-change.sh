@@ -55,9 +55,9 @@ for secret in secrets/*; do
     rm secret.plain
 done
 # A host gets its new key, then the secrets, and then deletes its old key. Nobody uses an old key again. The old keys are deleted when
-# everything else is on the disk.
+# everything else is on the disk. If the machine stops here, only the last two of these lines are left to do: never delete keys.new then.
 sync
-rm -r keys
+rm -r -f keys
 mv keys.new keys
 [ "$(jose jwe dec -i secrets/mail -k keys/d.jwk)" = 'battery staple' ]
 [ "$(jose jwe dec -i secrets/database -k keys/a.jwk)" = 'correct horse' ]

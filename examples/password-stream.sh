@@ -6,7 +6,7 @@ umask 077
 # Another program may have the name jose: see EXIT STATUS in jose(1).
 [ "$(jose 2>&1)" = 'jose: 1 Usage' ] || { echo 'this needs the jose of Lakhdzeva' >&2; exit 1; }
 # The script overwrites nothing: it ends if one of these exists.
-for name in whole typed.jwe typed.enc file.jwe file.enc sh.jwe sh.enc bash.jwe bash.enc; do
+for name in typed.jwe typed.enc file.jwe file.enc sh.jwe sh.enc bash.jwe bash.enc; do
     if [ -e "$name" ] || [ -h "$name" ]; then
         echo "run this in a new folder, without $name" >&2
         exit 1
@@ -23,7 +23,7 @@ echo 'correct horse' > "$clear/files/secret.txt"
 # A pipe ends with the status of its last command alone. So the first command leaves a mark if it succeeds, and rm fails without the mark.
 # pack: writes the folder as an archive. unpack NAME: unpacks it.
 pack() {
-    tar -C "$clear" -cf - files && : > whole
+    tar -C "$clear" -cf - files && : > "$clear/whole"
 }
 unpack() {
     tar -xf - -C "$clear/$1"
@@ -32,16 +32,16 @@ unpack() {
 
 # At a terminal: jose-password asks for the new password twice there, and later once.
 pack | jose-password enc -o typed.jwe -O typed.enc
-rm whole
-{ jose-password dec -i typed.jwe -I typed.enc && : > whole; } | unpack typed
-rm whole
+rm "$clear/whole"
+{ jose-password dec -i typed.jwe -I typed.enc && : > "$clear/whole"; } | unpack typed
+rm "$clear/whole"
 
 # Without a terminal: the password is the first line of a file.
 echo 'four words drawn at random' > "$clear/word"
 pack | jose-password -f "$clear/word" enc -o file.jwe -O file.enc
-rm whole
-{ jose-password -f "$clear/word" dec -i file.jwe -I file.enc && : > whole; } | unpack file
-rm whole
+rm "$clear/whole"
+{ jose-password -f "$clear/word" dec -i file.jwe -I file.enc && : > "$clear/whole"; } | unpack file
+rm "$clear/whole"
 
 # The same without the tool. The key goes through a pipe that jose opens as /dev/fd/3, while descriptor 4 keeps standard input. `printf` is
 # a command of the shell itself, so no list of processes has the password. A key that is not whole is no JSON, and jose refuses it.
@@ -53,9 +53,9 @@ key() {
 pack | {
     key | jose jwe enc -k /dev/fd/3 -i '{"protected":{"p2c":600000}}' -o sh.jwe -O sh.enc 3<&0 <&4
 } 4<&0
-rm whole
-{ key | jose jwe dec -k - -i sh.jwe -I sh.enc && : > whole; } | unpack sh
-rm whole
+rm "$clear/whole"
+{ key | jose jwe dec -k - -i sh.jwe -I sh.enc && : > "$clear/whole"; } | unpack sh
+rm "$clear/whole"
 
 # The same in bash, which has names for pipes, and an option for the status of each command.
 if command -v bash >/dev/null; then

@@ -22,7 +22,8 @@ mkdir "$etc"
 jose jwk gen -i '{"alg":"A256KW","kid":"host-7"}' -o "$etc/host.jwk"
 printf 'correct horse' | jose jwe enc -c -k "$etc/host.jwk" -o "$etc/db.jwe"
 
-# The unit that decrypts. When the secret has changed, restart this unit too. It has the full path of jose. RuntimeDirectory= makes /run/shop-secret, and /run is in memory.
+# The unit that decrypts. To change the secret, encrypt it to a new file, sync it,
+# rename it to db.jwe, and restart this unit. It has the full path of jose. RuntimeDirectory= makes /run/shop-secret, and /run is in memory.
 cat > shop-secret.service <<END
 [Service]
 Type=oneshot

@@ -217,13 +217,16 @@ int main(int count, char **words) {
         return perror("token-service"), 1;
     printf("listening on port %u\n", ntohs(at.sin_port));
     fflush(stdout);
+    /* A call of the library needs 256 KiB of stack, and musl gives a thread 128. */
+    pthread_attr_t attributes;
+    if (pthread_attr_init(&attributes) || pthread_attr_setstacksize(&attributes, 1 << 20)) return perror("token-service"), 1;
     for (;;) {
         pthread_t thread;
         int stream = accept(listener, NULL, NULL);
         struct timeval ten = {10, 0};
         setsockopt(stream, SOL_SOCKET, SO_RCVTIMEO, &ten, sizeof ten);
         setsockopt(stream, SOL_SOCKET, SO_SNDTIMEO, &ten, sizeof ten);
-        if (stream < 0 || pthread_create(&thread, NULL, serve, (void *)(intptr_t)stream)) {
+        if (stream < 0 || pthread_create(&thread, &attributes, serve, (void *)(intptr_t)stream)) {
             /* Too many are open, or there is no memory for another thread. */
             perror("token-service");
             if (stream >= 0) close(stream);

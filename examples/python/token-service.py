@@ -110,6 +110,7 @@ def main():
     if len(sys.argv) != 5:
         sys.exit("usage: token-service.py KEYS PORT ISSUER AUDIENCE")
     name, port, issuer, audience = sys.argv[1:]
+    threading.stack_size(1 << 20)  # A call of the library needs 256 KiB, and musl gives a thread 128.
     try:
         # Broken keys end the service here, and not at each request.
         keys = KeyFile(name)
