@@ -21,6 +21,7 @@ trap 'exit 1' HUP INT TERM
 mkdir "$clear/files"
 head -c 300000 /dev/urandom > "$clear/files/image"
 echo 'correct horse' > "$clear/files/secret.txt"
+# Once: the key.
 jose jwk gen -i '{"alg":"A256KW","kid":"backup"}' -o backup.jwk
 
 # Make it, each time in a new folder. Each part is a ciphertext of its own, with its object next to it. Parts have 100,000 octets here, since
@@ -34,7 +35,7 @@ rm "$clear/whole"
 # Nothing else binds the parts together, so a list of checksums of their objects is encrypted too. Each object has the tag of its part.
 (cd ./parts && sha256sum part-*.jwe) > "$clear/list"
 jose jwe enc -c -k backup.jwk -I "$clear/list" -o parts/list.jwe
-sync parts/* parts
+sync parts/* parts .
 
 # Restore it. Strangers may have changed the folder parts meanwhile. So the script uses only the names in the decrypted list, and compares
 # copies of the objects with it. All parts are decrypted before the archive is unpacked. An old backup restores too, if somebody puts it

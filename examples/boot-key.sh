@@ -23,6 +23,7 @@ head -c 32 /dev/urandom > "$clear/disk.key"
 jose jwk gen -i '{"alg":"A256KW","kid":"key file"}' -o file.jwk
 jose-password -n | jose-set join file.jwk - |
     jose jwe enc -k - -i '{"protected":{"p2c":600000}}' -I "$clear/disk.key" -o disk.jwe
+sync file.jwk disk.jwe .
 # here: cryptsetup luksFormat /dev/sda2 "$clear/disk.key"
 
 # At boot: the key goes through a pipe and is in no file. jose writes nothing of it before its tag has been checked. A damaged key file ends

@@ -44,10 +44,14 @@ echo 'battery staple' | encrypt keys mail
 [ "$(jose jwe dec -i secrets/database -k keys/b.jwk)" = 'correct horse' ]
 
 # Host b leaves, and host d joins. Host b may have kept what it read, so change the secrets themselves next.
+# If the machine stops in what follows, go on by what is there, in this order:
+# - no keys.new: nothing has begun, or all is done, and then keys/d.jwk is there;
+# - no keys.new/all.jwks, or an empty one: delete keys.new, and begin at the next line;
+# - no keys/admin.jwk: never delete keys.new now, and do what stands after the loop;
+# - else delete secret.plain, which is clear text, and run the loop again. Each secret opens with the old or with the new key of admin, and
+#   a file of secrets that ends in .new may be truncated.
 new_keys keys.new admin a c d
 sync
-# If the machine stops before this line, delete keys.new and begin again here. If it stops later, delete secret.plain, which is clear text,
-# and run the loop again: each secret opens with the old or with the new key of admin. A file that ends in .new may be truncated.
 for secret in secrets/*; do
     case $secret in *.new) continue ;; esac
     jose-set join keys/admin.jwk keys.new/admin.jwk | jose jwe dec -i "$secret" -k - -O secret.plain
@@ -55,9 +59,11 @@ for secret in secrets/*; do
     rm secret.plain
 done
 # A host gets its new key, then the secrets, and then deletes its old key. Nobody uses an old key again. The old keys are deleted when
-# everything else is on the disk. If the machine stops here, only the last two of these lines are left to do: never delete keys.new then.
+# everything else is on the disk.
 sync
-rm -r -f keys
-mv keys.new keys
+if [ -s keys.new/all.jwks ]; then
+    rm -r -f keys
+    mv keys.new keys
+fi
 [ "$(jose jwe dec -i secrets/mail -k keys/d.jwk)" = 'battery staple' ]
 [ "$(jose jwe dec -i secrets/database -k keys/a.jwk)" = 'correct horse' ]

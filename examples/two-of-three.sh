@@ -28,6 +28,7 @@ for pair in 'ann bob' 'ann cay' 'bob cay'; do
     jose jwe enc -c -k "$first.jwk" -I "$clear/secret" -o "$clear/inner"
     jose jwe enc -c -k "$second.jwk" -I "$clear/inner" -o "$first-$second.jwe"
 done
+sync ./*.jwk ./*.jwe .
 
 # Bob and Cay open it: Cay first, who hands an object to Bob that only he can read. If the first command refuses, the second one reads
 # an empty object and refuses as well, so its status is enough.

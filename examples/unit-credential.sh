@@ -21,6 +21,7 @@ mkdir "$etc"
 # Once: the key of the host, and the secret. The object can be kept with other settings. The key stays on the host, for root alone.
 jose jwk gen -i '{"alg":"A256KW","kid":"host-7"}' -o "$etc/host.jwk"
 printf 'correct horse' | jose jwe enc -c -k "$etc/host.jwk" -o "$etc/db.jwe"
+sync "$etc"/* "$etc"
 
 # The unit that decrypts. To change the secret, encrypt it to a new file, sync it,
 # rename it to db.jwe, and restart this unit. It has the full path of jose. RuntimeDirectory= makes /run/shop-secret, and /run is in memory.
