@@ -31,9 +31,7 @@ new_keys() {
 }
 # encrypt FOLDER NAME: standard input becomes the secret of this name, for every key of the folder.
 encrypt() {
-    jose jwe enc -k "$1/all.jwks" -o "secrets/$2.new"
-    sync "secrets/$2.new"
-    mv "secrets/$2.new" "secrets/$2"
+    jose jwe enc -k "$1/all.jwks" -o "secrets/$2.new" && sync "secrets/$2.new" && mv "secrets/$2.new" "secrets/$2"
 }
 mkdir secrets
 new_keys keys admin a b c
@@ -44,9 +42,9 @@ echo 'battery staple' | encrypt keys mail
 [ "$(jose jwe dec -i secrets/database -k keys/b.jwk)" = 'correct horse' ]
 
 # Host b leaves, and host d joins. Host b may have kept what it read, so change the secrets themselves next.
-# If the machine stops in what follows, go on by what is there, in this order:
+# If the machine stops in what follows, go on by what is there, in this order, in a script that begins as this one does up to encrypt:
 # - no keys.new: nothing has begun, or all is done, and then keys/d.jwk is there;
-# - no keys.new/all.jwks, or an empty one: delete keys.new, and begin at the next line;
+# - no keys.new/all.jwks, or an empty one: delete keys.new, and begin at "new_keys keys.new";
 # - no keys/admin.jwk: never delete keys.new now, and do what stands after the loop;
 # - else delete secret.plain, which is clear text, and run the loop again. Each secret opens with the old or with the new key of admin, and
 #   a file of secrets that ends in .new may be truncated.
@@ -54,8 +52,8 @@ new_keys keys.new admin a c d
 sync
 for secret in secrets/*; do
     case $secret in *.new) continue ;; esac
-    jose-set join keys/admin.jwk keys.new/admin.jwk | jose jwe dec -i "$secret" -k - -O secret.plain
-    encrypt keys.new "${secret##*/}" < secret.plain
+    jose-set join keys/admin.jwk keys.new/admin.jwk | jose jwe dec -i "$secret" -k - -O secret.plain || exit 1
+    encrypt keys.new "${secret##*/}" < secret.plain || exit 1
     rm secret.plain
 done
 # A host gets its new key, then the secrets, and then deletes its old key. Nobody uses an old key again. The old keys are deleted when

@@ -6,7 +6,7 @@ umask 077
 # Another program may have the name jose: see EXIT STATUS in jose(1).
 [ "$(jose 2>&1)" = 'jose: 1 Usage' ] || { echo 'this needs the jose of Lakhdzeva' >&2; exit 1; }
 # The script overwrites nothing: it ends if one of these exists.
-for name in ann.jwk bob.jwk eve.jwk people.jwks release release.ann release.bob release.eve release.jws; do
+for name in ann.jwk bob.jwk eve.jwk people.jwks release release.ann release.bob release.eve release.jws release.new; do
     if [ -e "$name" ] || [ -h "$name" ]; then
         echo "run this in a new folder, without $name" >&2
         exit 1
@@ -46,5 +46,7 @@ jose jwk gen -i '{"alg":"HS256","kid":"eve"}' -o eve.jwk
 jose-set add people.jwks eve.jwk
 jose-verify-all 2/3 people.jwks -i release.jws -I release
 jose jws sig -c -k eve.jwk -I release -o release.eve -O /dev/null
-join release.ann release.bob release.eve > release.jws
+join release.ann release.bob release.eve > release.new
+sync release.new
+mv release.new release.jws
 jose-verify-all 3 people.jwks -i release.jws -I release
