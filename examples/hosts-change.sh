@@ -44,7 +44,7 @@ echo 'battery staple' | encrypt keys mail
 # Host b leaves, and host d joins. Host b may have kept what it read, so change the secrets themselves next.
 # If the machine stops in what follows, go on by what is there, in this order, in a script that begins as this one does up to encrypt:
 # - no keys.new: nothing has begun, or all is done, and then keys/d.jwk is there;
-# - no keys.new/all.jwks, or an empty one: delete keys.new, and begin at "new_keys keys.new";
+# - no keys.new/all.jwks, or an empty one: delete keys.new, and begin below this list;
 # - no keys/admin.jwk: never delete keys.new now, and do what stands after the loop;
 # - else delete secret.plain, which is clear text, and run the loop again. Each secret opens with the old or with the new key of admin, and
 #   a file of secrets that ends in .new may be truncated.
