@@ -162,8 +162,6 @@ PLACES = [
     ("toolbox/src/main.rt", "main", "fn main(rt: HostRuntime) -> ExitCode { tools::start(rt) }", "it does nothing else"),
     ("tools/src/lib.rt", "start", "fn start(rt: HostRuntime) -> ExitCode { let mut disk = Disk { files: &rt, input: rt.stdin(), output: rt.stdout(), }; "
      "let mut errors = WriterOutput::new(rt.stderr()); ExitCode::from(perform(rt.alloc(), &rt, &mut disk, rt.stdin(), rt.stdout(), &mut errors,)) }", "the system and its streams"),
-    ("tools/src/lib.rt", "", "mod tests;", "its tests"),
-    ("tools/src/lib.rt", "", "mod command_tests;", "tests of words"),
     ("tools/src/disk.rt", "", "use std::fs::{File, FileType, OpenOptions, Permissions, remove_file, rename, symlink_metadata};", "files"),
     ("tools/src/disk.rt", "", "use std::os::fd::AsFd;", "the number of a new file, to give it an owner"),
     ("tools/src/disk.rt", "", "use std::os::unix::fs::{MetadataExt, OpenOptionsExt, PermissionsExt, fchown};", "modes and owners"),

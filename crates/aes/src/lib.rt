@@ -26,6 +26,4 @@ pub mod laws;
 mod lookups;
 mod state;
 mod tables;
-#[cfg(test)]
-mod tests;
 mod whole_blocks;

@@ -40,18 +40,3 @@ pub use key_alg::{KeyAlg, KeyManagementMode, KeyParameters};
 pub use key_wrap::{unwrap, wrap};
 pub use salted_key::SaltedKey;
 pub use sealer::Sealer;
-
-#[cfg(test)]
-mod content_alg_tests;
-#[cfg(test)]
-mod key_alg_tests;
-#[cfg(test)]
-mod key_wrap_tests;
-#[cfg(test)]
-mod long_tests;
-#[cfg(test)]
-mod name_tests;
-#[cfg(test)]
-mod salted_key_tests;
-#[cfg(test)]
-mod table_tests;

@@ -37,6 +37,3 @@ pub use strict_json::{
     has_only, is_object, members_have_whole_numbers, nests_at_most, object_nests_at_most, read_json,
 };
 pub use thumbprints::{text_thumbprints, thumbprint};
-
-#[cfg(test)]
-mod tests;

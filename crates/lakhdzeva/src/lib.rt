@@ -286,3 +286,6 @@ pub extern "C" fn lakhdzeva_core_format_encrypted(
         content_count,
     )
 }
+
+#[cfg(test)]
+mod tests;

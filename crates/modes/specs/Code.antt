@@ -3,7 +3,5 @@
 pub mod Views
 -- the opening of CBC, and of GCM
 pub mod Opening
--- a block cipher for tests
-pub mod Toy
 -- blocks of GHASH times x
 pub mod Shifts

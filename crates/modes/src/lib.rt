@@ -27,12 +27,3 @@ pub use cbc_opening::cbc_open;
 pub use ctr::Ctr32;
 pub use gcm::{Gcm, gcm_open};
 pub use ghash::Ghash;
-
-#[cfg(test)]
-mod gcm_tests;
-#[cfg(test)]
-mod long_tests;
-#[cfg(test)]
-mod product_tests;
-#[cfg(test)]
-mod tests;

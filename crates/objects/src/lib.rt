@@ -39,6 +39,3 @@ pub use jws::parts::{JwsParts, MadeSignature, SignatureParts};
 pub use jws::signature::Signature;
 pub use key_management::KeyManagement;
 pub use shared::SharedOctets;
-
-#[cfg(test)]
-mod tests;

@@ -44,10 +44,3 @@ pub use streams::{ReaderInput, WriterOutput};
 pub use transform::{Transform, pump};
 pub use whole::{Partial, draw, emit, read_to_end, write_whole};
 pub use writer::{B64Writer, encode_onto};
-
-#[cfg(test)]
-mod call_tests;
-#[cfg(test)]
-mod device_tests;
-#[cfg(test)]
-mod tests;

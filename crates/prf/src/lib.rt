@@ -26,10 +26,3 @@ pub use hash::Hash;
 pub use hmac::{Hmac, KeyBlock};
 pub use key_derivation::{first_iterate, pbkdf2, pbkdf2_after};
 pub use sha2::{Sha256, Sha384, Sha512};
-
-#[cfg(test)]
-mod long_tests;
-#[cfg(test)]
-mod pbkdf2_tests;
-#[cfg(test)]
-mod tests;

@@ -31,6 +31,3 @@ pub use verify::{
     jws_verified_by, jws_verify, jws_verify_detached, jws_verify_detached_least, jws_verify_least,
     needs_signers,
 };
-
-#[cfg(test)]
-mod tests;

@@ -189,8 +189,3 @@ pub fn start(rt: HostRuntime) -> ExitCode {
         &mut errors,
     ))
 }
-
-#[cfg(test)]
-mod command_tests;
-#[cfg(test)]
-mod tests;

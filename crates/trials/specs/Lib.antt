@@ -1,0 +1,2 @@
+-- a block cipher for tests
+pub mod Toy

@@ -1,0 +1,2 @@
+//! AES (FIPS 197).
+mod blocks;

@@ -1,0 +1,4 @@
+//! Hashes, HMAC and PBKDF2.
+mod derivation;
+mod long;
+mod vectors;
