@@ -162,20 +162,28 @@ PLACES = [
     ("toolbox/src/main.rt", "main", "fn main(rt: HostRuntime) -> ExitCode { tools::start(rt) }", "it does nothing else"),
     ("tools/src/lib.rt", "start", "fn start(rt: HostRuntime) -> ExitCode { let mut disk = Disk { files: &rt, input: rt.stdin(), output: rt.stdout(), }; "
      "let mut errors = WriterOutput::new(rt.stderr()); ExitCode::from(perform(rt.alloc(), &rt, &mut disk, rt.stdin(), rt.stdout(), &mut errors,)) }", "the system and its streams"),
-    ("tools/src/disk.rt", "", "use std::fs::{File, FileType, OpenOptions, Permissions, remove_file, rename, symlink_metadata};", "files"),
+    ("tools/src/disk.rt", "", "use std::fs::{File, Metadata, OpenOptions, remove_file, rename, symlink_metadata};", "files"),
     ("tools/src/disk.rt", "", "use std::os::fd::AsFd;", "the number of a new file, to give it an owner"),
-    ("tools/src/disk.rt", "", "use std::os::unix::fs::{MetadataExt, OpenOptionsExt, PermissionsExt, fchown};", "modes and owners"),
+    ("tools/src/disk.rt", "", "use std::os::unix::fs::{MetadataExt, OpenOptionsExt, fchown};", "modes, owners and numbers of files"),
     ("tools/src/disk.rt", "Disk::create_new", "match options.open(self.files, path) { Ok(file) => Ok(file), Err(e) => Err(why_not_created(e.kind())), }", "what the system answers"),
-    ("tools/src/disk.rt", "Disk::own_as", "let Ok(found) = symlink_metadata(self.files, old) else { return Err(Fault::Writing); };", "what the system answers of the old file"),
+    ("tools/src/disk.rt", "Disk::open_old", "needs_file(symlink_metadata(self.files, path))?; let mut options = OpenOptions::new(); options.read(true).write(true); "
+     "let Ok(file) = options.open(self.files, path) else { return Err(NotOpened::NotWritable); }; let found = needs_file(file.metadata())?; "
+     "let named = needs_file(symlink_metadata(self.files, path))?; if !is_same_file(&found, &named) { return Err(NotOpened::NoFile); } "
+     "if found.mode() & OTHERS_BITS == 0 { Ok(file) } else { Err(NotOpened::Shared) }", "the set: a regular file, no link, open to its owner alone"),
+    ("tools/src/disk.rt", "Disk::own_as", "let (Ok(made), Ok(found)) = (new.metadata(), old.metadata()) else { return Err(Fault::Writing); }; let group = Some(found.gid()); "
+     "if made.uid() == found.uid() { let _ = fchown(new.as_fd(), None, group); return Ok(()); } caused(fchown(new.as_fd(), Some(found.uid()), group))",
+     "the owner of the open set"),
+    ("tools/src/disk.rt", "needs_file", "match found { Ok(found) if found.is_file() => Ok(found), Ok(found) if found.is_symlink() => Err(NotOpened::Link), _ => Err(NotOpened::NoFile), }",
+     "what the system answers of the set"),
+    ("tools/src/disk.rt", "is_same_file", "one.dev() == other.dev() && one.ino() == other.ino()", "whether a name is that of the open set"),
     ("tools/src/disk.rt", "Disk::sync_folder", "let Ok(folder) = File::open(self.files, folder_of(path)) else { return Err(Fault::Writing); }; "
      "match folder.sync_all() { Err(e) if cannot_be_synchronized(e.kind()) => Ok(()), answer => caused(answer), }", "what the system answers; that a folder cannot be synchronized is no failure"),
-    ("tools/src/disk.rt", "Disk::read", "match read_whole(alloc, self.files, self.input, path) { Ok(text) => Ok(text), Err(Refusal::Memory) => Err(Refusal::Memory), Err(_) => Err(Refusal::Read), }",
+    ("tools/src/disk.rt", "in_reading", "match text { Ok(text) => Ok(text), Err(Refusal::Memory) => Err(Refusal::Memory), Err(_) => Err(Refusal::Read), }",
      "the refusal of a reading"),
     ("tools/src/disk.rt", "caused", "match answer { Ok(()) => Ok(()), Err(_) => Err(Fault::Writing), }", "what the system answers"),
     ("tools/src/disk.rt", "why_not_created", "fn why_not_created(kind: ErrorKind) -> NotCreated { match kind { ErrorKind::AlreadyExists => NotCreated::Exists, _ => NotCreated::Failed, } }", "matched, and not made"),
     ("tools/src/disk.rt", "cannot_be_synchronized", "fn cannot_be_synchronized(kind: ErrorKind) -> bool { matches!(kind, ErrorKind::InvalidInput | ErrorKind::Unsupported) }", "matched, and not made"),
     ("tools/src/disk.rt", "write_whole_to", "match emit(&mut output, octets) { Ok(()) => Ok(()), Err(_) => Err(Fault::Writing), }", "the fault of an output"),
-    ("tools/src/replacing.rt", "needs_file", "by_kind(disk.kind(set))", "the kind of a file, which is no error"),
     ("tools/src/changing.rt", "reading_cause", "match refusal { Refusal::Memory => ToolCause::Memory, _ => ToolCause::At(place, Why::Unread), }", "the refusal of a reading"),
     ("tools/src/holding.rt", "refused_by", "Refusal::Memory => ToolCause::Memory,", "the refusal of a reading"),
     ("tools/src/command_files.rt", "", "use std::fs::{File, metadata};", "files"),

@@ -2,7 +2,7 @@
 use octets::{Fault, Refusal};
 use std::alloc::{AllocError, Global};
 use std::process::Abort;
-use tools::{FindFiles, Found, Kind, NotCreated, PutFiles, change_set, parse_set};
+use tools::{FindFiles, Found, NotCreated, NotOpened, PutFiles, change_set, parse_set};
 
 const A: &str = "{\"kty\":\"oct\",\"k\":\"AAAA\"}";
 
@@ -90,6 +90,12 @@ fn copied(alloc: Global, octets: &[u8]) -> Result<Vec<u8>, AllocError> {
     Ok(copy)
 }
 
+/// An open file: its octets when it was opened.
+#[derive(Drop)]
+pub(crate) struct Old {
+    text: Vec<u8>,
+}
+
 /// A new file, which is in its folder under its name.
 #[derive(Drop)]
 pub(crate) struct New;
@@ -111,26 +117,39 @@ impl FindFiles for Files {
 impl PutFiles for Files {
     ghost use Rattle.std.specs.Prelude.{⊤};
 
+    type Old = Old;
+
     type New = New;
 
     type Synced = New;
 
     ghost made = { λ _ _. ⊤ };
 
+    ghost is_old = { λ _ _. ⊤ };
+
     ghost is_new = { λ _ _. ⊤ };
 
     ghost is_synced = { λ _ _. ⊤ };
 
-    fn kind(&mut self, path: &str) -> Kind {
-        if self.call().is_ok() && self.text_of(path).is_some() {
-            Kind::File
-        } else {
-            Kind::Other
+    fn open_old(&mut self, path: &str) -> Result<Old, NotOpened> {
+        if self.call().is_err() {
+            return Err(NotOpened::NotWritable);
+        }
+        let alloc = self.alloc;
+        match self.text_of(path) {
+            Some(text) => match copied(alloc, text) {
+                Ok(text) => Ok(Old { text }),
+                Err(_) => Err(NotOpened::NotWritable),
+            },
+            None => Err(NotOpened::NoFile),
         }
     }
 
-    fn may_write(&mut self, _path: &str) -> bool {
-        self.call().is_ok()
+    fn read_old(&mut self, alloc: Global, old: &mut Old, _path: &str) -> Result<Vec<u8>, Refusal> {
+        if self.call().is_err() {
+            return Err(Refusal::Read);
+        }
+        Ok(copied(alloc, &old.text)?)
     }
 
     fn read(&mut self, alloc: Global, path: &str) -> Result<Vec<u8>, Refusal> {
@@ -172,7 +191,7 @@ impl PutFiles for Files {
         self.keep(path, octets)
     }
 
-    fn own_as(&mut self, _new: &New, _path: &str, _old: &str) -> Result<(), Fault> {
+    fn own_as(&mut self, _new: &New, _path: &str, _old: &Old, _set: &str) -> Result<(), Fault> {
         self.call()
     }
 
@@ -225,13 +244,13 @@ fn expect_file(rt: &impl Abort, files: &Files, name: &str, text: Option<&str>) {
     assert!(rt; found == text.map(|text| text.as_bytes()), "{name}");
 }
 
-/// `add` makes ten calls. If the last one fails, the set was changed.
+/// `add` makes nine calls. If the last one fails, the set was changed.
 #[test]
 fn add_leaves_the_set_or_changes_it(rt: HostRuntime) -> Result<(), AllocError> {
-    for fails_at in 0..11 {
+    for fails_at in 0..10 {
         let (files, done) = run(rt.alloc(), &["add", "set", "a"], fails_at)?;
-        assert_eq!(&rt; done, fails_at == 10, "call {fails_at}");
-        let text = if fails_at < 9 { SET } else { ADDED };
+        assert_eq!(&rt; done, fails_at == 9, "call {fails_at}");
+        let text = if fails_at < 8 { SET } else { ADDED };
         expect_file(&rt, &files, "set", Some(text));
         expect_file(&rt, &files, "set.new", None);
     }

@@ -5,16 +5,15 @@ use Rattle.tools.specs.declared.tool_cause.Why.{Why}
 use Rattle.std.proofs.Common.{◌≡◌, ◌∙◌, ℕ, ◌+◌, suc, if◌then◌else◌, Bool, true, List, [], ◌∷◌, ◌++◌, length, Some, Result, Ok, Err, refl, sym, ap, subst, append_assoc, ◌≢◌, false, Option, None, ◌⊎◌, inl, inr}
 use Rattle.std.proofs.lemmas.Bool.{or_parts}
 use Rattle.std.proofs.lemmas.List.{append-nil}
-use Rattle.tools.specs.declared.put_files.Kind.{Kind}
-use Rattle.tools.specs.declared.put_files.Kind.TheVariants as kind
+use Rattle.tools.specs.declared.put_files.NotOpened.{NotOpened}
 use Rattle.tools.specs.declared.tool_cause.Place.{Place}
 use Rattle.tools.specs.declared.tool_cause.Place.TheVariants.{Beside, Target, File}
 use Rattle.tools.specs.declared.tool_cause.ToolCause.{ToolCause}
 use Rattle.tools.specs.declared.tool_cause.ToolCause.TheVariants.{At, Output}
 use Rattle.tools.specs.declared.tool_cause.Why.TheVariants as why
-use Rattle.tools.specs.Calls.{Call, asked, tried, read, created, wrote, owned, synced, put, folder_synced, written_out, removed}
+use Rattle.tools.specs.Calls.{Call, opened, read_opened, read, created, wrote, owned, synced, put, folder_synced, written_out, removed}
 use Rattle.tools.specs.ChangeLaws.{AddsAreWhole, RemovalsAreWhole, locking, reads, rewriting, Has, RefusalsDeleteWhatIsNew, RefusalsReplaceNothing, is_put}
-use Rattle.tools.specs.Changes.{Deletes, Editing, adding, removing, Edits, Examines, Gathers, Judges, ReadsEdited, Refills, Rewrites, Undoes, beside, by_kind, Creates, EndsAt, Fills, Places, PutsClaimed, Reads, ReadsJoined, joins, adds, removes}
+use Rattle.tools.specs.Changes.{Deletes, Editing, adding, removing, Edits, Opens, Gathers, Judges, ReadsEdited, Refills, Rewrites, Undoes, beside, Creates, EndsAt, Fills, Places, PutsClaimed, Reads, ReadsJoined, joins, adds, removes}
 use Rattle.tools.specs.SetHeadline.{joined_from}
 use Rattle.tools.specs.Sets.{JoinedKeys, no_keys, set_keys, set_text, text_without, with_text}
 use Rattle.tools.specs.Steps.{Step, Computes, Then, stops, goes_on, Calls}
@@ -41,16 +40,16 @@ both_are is ha hb = cc
 
 -- ---- reading
 
-judged : {A : Type 0} (path : List ℕ) {place : Place} {judge : List ℕ → Result A ToolCause} {calls : List Call} {x : A} → Judges path place judge calls (Ok x)
-    → (text : List ℕ) × ((judge text ≡ Ok x) × (calls ≡ read path (Some text) ∷ []))
-judged path j = let w = then_ok j in (w.x, (w.ends.gives, w.calls_are ∙ ap (λ cs. cs ++ w.rest) w.begins ∙ ap (λ cs. read path (Some w.x) ∷ cs) w.ends.none))
+judged : {A : Type 0} (call : Option (List ℕ) → Call) {place : Place} {judge : List ℕ → Result A ToolCause} {calls : List Call} {x : A} → Judges call place judge calls (Ok x)
+    → (text : List ℕ) × ((judge text ≡ Ok x) × (calls ≡ call (Some text) ∷ []))
+judged call j = let w = then_ok j in (w.x, (w.ends.gives, w.calls_are ∙ ap (λ cs. cs ++ w.rest) w.begins ∙ ap (λ cs. call (Some w.x) ∷ cs) w.ends.none))
 
 gathered : (at : ℕ) (joined all : JoinedKeys) (files : List (List ℕ)) (calls : List Call) → Gathers at joined files calls (Ok all)
     → (texts : List (List ℕ)) × ((joined_from at joined texts ≡ Ok all) × (length texts ≡ length files) × (calls ≡ reads files texts))
 gathered at joined all [] calls g = ([], (g.gives, refl, g.none))
 gathered at joined all (file ∷ files) calls g =
     let w = then_ok g in
-    let one = judged file w.begins in
+    let one = judged (read file) w.begins in
     let later = gathered (at + 1) w.x all files w.rest w.ends in (
       one.0 ∷ later.0,
       (
@@ -71,16 +70,6 @@ refilled path set text calls r =
     a.calls_are ∙ ap (λ cs. cs ++ a.rest) a.begins
     ∙ ap (λ cs. wrote path text true ∷ cs) (b.calls_are ∙ ap (λ cs. cs ++ b.rest) b.begins
     ∙ ap (λ cs. owned path set true ∷ cs) (d.calls_are ∙ ap (λ cs. cs ++ d.rest) d.begins ∙ ap (λ cs. synced path true ∷ cs) d.ends))
-
-by_file : (k : Kind) → Ok tt ≡ by_kind k → k ≡ kind.File
-by_file kind.File h = refl
-by_file kind.Link h = cc h
-by_file kind.Other h = cc h
-
-examined : (set : List ℕ) (calls : List Call) → Examines set calls (Ok tt) → calls ≡ asked set kind.File ∷ tried set true ∷ []
-examined set calls e =
-    let a = then_ok e in
-    a.calls_are ∙ ap (λ cs. cs ++ a.rest) (a.begins.call ∙ ap (λ k. asked set k ∷ []) (by_file a.begins.kind a.begins.cause)) ∙ ap (λ cs. asked set kind.File ∷ cs) a.ends
 
 -- what was not undone succeeded, and nothing was deleted
 kept : (path : List ℕ) (place : Place) (step : Step (Unit {0})) (calls : List Call) → Undoes path place step calls (Ok tt) → step calls (Ok tt)
@@ -112,13 +101,13 @@ edited set edit calls e =
       text = r.x;
       middle = r.front;
       reading = r.begins;
-      calls_are = all_are set b.x r.x r.front name a.calls_are (examined set a.front a.begins) b.calls_are b.begins.none d.calls_are d.begins f.calls_are r.calls_are filled f.ends;
+      calls_are = all_are set b.x r.x r.front name a.calls_are a.begins b.calls_are b.begins.none d.calls_are d.begins f.calls_are r.calls_are filled f.ends;
     }
   where
     name_is : {x : List ℕ} → (let r : Result (List ℕ) ToolCause = Ok (beside set) in r) ≡ Ok x → x ≡ beside set
     name_is h = cc h
 
-    all_are : (set path text : List ℕ) (r1 : List Call) {calls a1 a2 b1 b2 d1 d2 f1 f2 r2 : List Call} → path ≡ beside set → calls ≡ a1 ++ a2 → a1 ≡ asked set kind.File ∷ tried set true ∷ []
+    all_are : (set path text : List ℕ) (r1 : List Call) {calls a1 a2 b1 b2 d1 d2 f1 f2 r2 : List Call} → path ≡ beside set → calls ≡ a1 ++ a2 → a1 ≡ opened set (Ok tt) ∷ []
         → a2 ≡ b1 ++ b2 → b1 ≡ [] → b2 ≡ d1 ++ d2 → d1 ≡ created path (Ok tt) ∷ [] → d2 ≡ f1 ++ f2 → f1 ≡ r1 ++ r2
         → r2 ≡ wrote path text true ∷ owned path set true ∷ synced path true ∷ put path set true ∷ [] → f2 ≡ folder_synced set true ∷ []
         → calls ≡ locking set ++ (r1 ++ rewriting set text)
@@ -129,11 +118,11 @@ pub adds_are_whole : AddsAreWhole
 adds_are_whole set files calls e =
     let d = edited set (adding files) calls e in
     let a = then_ok d.reading in
-    let first = judged set a.begins in
+    let first = judged (read_opened set) a.begins in
     let b = then_ok a.ends in
     let later = gathered 0 a.x b.x files b.front b.begins in
-    let middle : d.middle ≡ read set (Some first.0) ∷ reads files later.0
-    = a.calls_are ∙ ap (λ cs. cs ++ a.rest) first.1.1 ∙ ap (λ cs. read set (Some first.0) ∷ cs)
+    let middle : d.middle ≡ read_opened set (Some first.0) ∷ reads files later.0
+    = a.calls_are ∙ ap (λ cs. cs ++ a.rest) first.1.1 ∙ ap (λ cs. read_opened set (Some first.0) ∷ cs)
     (b.calls_are ∙ ap (λ cs. cs ++ b.rest) later.1.2 ∙ ap (λ cs. reads files later.0 ++ cs) b.ends.none ∙ append-nil (reads files later.0)) in (
       first.0,
       (later.0, (d.text, (rw (first.1.0, later.1.0) b.ends.gives, later.1.1, d.calls_are ∙ ap (λ cs. locking set ++ (cs ++ rewriting set d.text)) middle))),
@@ -142,15 +131,15 @@ adds_are_whole set files calls e =
 pub removals_are_whole : RemovalsAreWhole
 removals_are_whole set names calls e =
     let d = edited set (removing names) calls e in
-    let a = judged set d.reading in
+    let a = judged (read_opened set) d.reading in
     (a.0, (d.text, (a.1.0, d.calls_are ∙ ap (λ cs. locking set ++ (cs ++ rewriting set d.text)) a.1.1)))
 
 -- ---- refusals
 
 -- the test fails at every call that neither creates a file nor puts one in its place
 pub record Ignores (test : Call → Bool) : Type 0 where
-  pub asks : (path : List ℕ) (k : Kind) → test (asked path k) ≡ false
-  pub tries : (path : List ℕ) (did : Bool) → test (tried path did) ≡ false
+  pub opens : (path : List ℕ) (answer : Result (Unit {0}) NotOpened) → test (opened path answer) ≡ false
+  pub takes_set : (path : List ℕ) (text : Option (List ℕ)) → test (read_opened path text) ≡ false
   pub takes : (path : List ℕ) (text : Option (List ℕ)) → test (read path text) ≡ false
   pub prints : (text : List ℕ) (did : Bool) → test (written_out text did) ≡ false
   pub writes : (path text : List ℕ) (did : Bool) → test (wrote path text did) ≡ false
@@ -185,31 +174,32 @@ module _ (test : Call → Bool) (none : Ignores test) where
   computes_without : {A : Type 0} (answer : Result A ToolCause) (cs : List Call) (r : Result A ToolCause) → Computes answer cs r → Without cs
   computes_without answer cs r c = nothing cs c.none
 
-  reads_without : (path : List ℕ) (place : Place) (cs : List Call) (r : Result (List ℕ) ToolCause) → Reads path place cs r → Without cs
-  reads_without path place cs (Ok text) is = only cs (read path (Some text)) is (none.takes path (Some text))
-  reads_without path place cs (Err e) is = only cs (read path None) is.1.0 (none.takes path None)
+  reads_without : (call : Option (List ℕ) → Call) → ((text : Option (List ℕ)) → test (call text) ≡ false) → (place : Place) (cs : List Call)
+      (r : Result (List ℕ) ToolCause) → Reads call place cs r → Without cs
+  reads_without call h place cs (Ok text) is = only cs (call (Some text)) is (h (Some text))
+  reads_without call h place cs (Err e) is = only cs (call None) is.1.0 (h None)
 
-  judges_without : {A : Type 0} (path : List ℕ) (place : Place) (judge : List ℕ → Result A ToolCause) (cs : List Call) (r : Result A ToolCause)
-      → Judges path place judge cs r → Without cs
-  judges_without path place judge cs r j = then_without j (reads_without path place) (λ text cs. computes_without (judge text) cs r)
+  judges_without : {A : Type 0} (call : Option (List ℕ) → Call) → ((text : Option (List ℕ)) → test (call text) ≡ false) → (place : Place)
+      (judge : List ℕ → Result A ToolCause) (cs : List Call) (r : Result A ToolCause) → Judges call place judge cs r → Without cs
+  judges_without call h place judge cs r j = then_without j (reads_without call h place) (λ text cs. computes_without (judge text) cs r)
 
   gathers_without : (files : List (List ℕ)) (at : ℕ) (joined : JoinedKeys) (cs : List Call) (r : Result JoinedKeys ToolCause)
       → Gathers at joined files cs r → Without cs
   gathers_without [] at joined cs r g = nothing cs g.none
   gathers_without (file ∷ files) at joined cs r g =
-      then_without g (judges_without file (File at) (with_text (File at) joined)) (λ more cs. gathers_without files (at + 1) more cs r)
+      then_without g (judges_without (read file) (none.takes file) (File at) (with_text (File at) joined)) (λ more cs. gathers_without files (at + 1) more cs r)
 
   joined_without : (files : List (List ℕ)) (cs : List Call) (r : Result (List ℕ) ToolCause) → ReadsJoined files cs r → Without cs
   joined_without files cs r j = then_without j (gathers_without files 0 no_keys) (λ joined cs. computes_without (Ok (set_text joined.objects)) cs r)
 
   edited_without : (set : List ℕ) (edit : Editing) (cs : List Call) (r : Result (List ℕ) ToolCause) → ReadsEdited set edit cs r → Without cs
-  edited_without set (adding files) cs r j = then_without j (judges_without set Target set_keys)
+  edited_without set (adding files) cs r j = then_without j (judges_without (read_opened set) (none.takes_set set) Target set_keys)
       (λ first cs k. then_without k (gathers_without files 0 first) (λ joined cs. computes_without (Ok (set_text joined.objects)) cs r))
-  edited_without set (removing names) cs r j = judges_without set Target (text_without names) cs r j
+  edited_without set (removing names) cs r j = judges_without (read_opened set) (none.takes_set set) Target (text_without names) cs r j
 
-  examines_without : (set : List ℕ) (cs : List Call) (r : Result (Unit {0}) ToolCause) → Examines set cs r → Without cs
-  examines_without set cs r e = then_without e (λ cs r f. only cs (asked set f.kind) f.call (none.asks set f.kind))
-      (λ done cs. call_without (tried set) (At Target why.NotWritable) (none.tries set) cs r)
+  opens_without : (set : List ℕ) (cs : List Call) (r : Result (Unit {0}) ToolCause) → Opens set cs r → Without cs
+  opens_without set cs (Ok done) is = only cs (opened set (Ok tt)) is (none.opens set (Ok tt))
+  opens_without set cs (Err e) is = only cs (opened set (Err is.0)) is.1.0 (none.opens set (Err is.0))
 
   places_without : (path target : List ℕ) (cs : List Call) (cause : ToolCause) → Places path target cs (Err cause) → Without cs
   places_without path target cs cause p = then_without p (call_without (synced path) (At Beside why.NotOnDisk) (none.syncs path))
@@ -247,8 +237,8 @@ was_undone path place step calls cause u = by_outcome u.outcome u.takes u.delete
 
 puts_are_none : Ignores is_put
 puts_are_none = record {
-  asks = λ path k. refl;
-  tries = λ path did. refl;
+  opens = λ path answer. refl;
+  takes_set = λ path text. refl;
   takes = λ path text. refl;
   prints = λ text did. refl;
   writes = λ path text did. refl;
@@ -281,7 +271,7 @@ ends_none_put path target place step cs cause not h (goes_on x front rest is f n
 edits_none_put : (set : List ℕ) (edit : Editing) (cs : List Call) (cause : ToolCause) → cause ≢ At Target why.FolderNotOnDisk
     → Edits set edit cs (Err cause) → NonePut cs
 edits_none_put set edit cs cause not e =
-    then_without is_put puts_are_none e (examines_without is_put puts_are_none set) (λ done cs k.
+    then_without is_put puts_are_none e (opens_without is_put puts_are_none set) (λ done cs k.
     then_without is_put puts_are_none k (λ cs r. computes_without is_put puts_are_none (Ok (beside set)) cs r) (λ path cs m.
     then_without is_put puts_are_none m (creates_none_put path Beside why.Claimed)
     (λ done cs. ends_none_put path set Beside (Rewrites path set edit) cs cause not (rewrites_without is_put puts_are_none path set edit))))
@@ -310,8 +300,8 @@ is_created call = false
 
 creations_are_none : Ignores is_created
 creations_are_none = record {
-  asks = λ path k. refl;
-  tries = λ path did. refl;
+  opens = λ path answer. refl;
+  takes_set = λ path text. refl;
   takes = λ path text. refl;
   prints = λ text did. refl;
   writes = λ path text did. refl;
@@ -399,7 +389,7 @@ ends_undone path target place step cs cause not (goes_on x front rest is f n) = 
 edits_delete : (set : List ℕ) (edit : Editing) (cs : List Call) (cause : ToolCause) → cause ≢ At Target why.FolderNotOnDisk
     → Edits set edit cs (Err cause) → DeletesNew cs
 edits_delete set edit cs cause not e =
-    then_deletes e (examines_without is_created creations_are_none set) (λ done cs k.
+    then_deletes e (opens_without is_created creations_are_none set) (λ done cs k.
     then_deletes k (λ cs r. computes_without is_created creations_are_none (Ok (beside set)) cs r) (λ path cs m.
     claim_deletes path Beside why.Claimed (Rewrites path set edit) cs cause (λ rest. ends_undone path set Beside (Rewrites path set edit) rest cause not)
     (λ front first w. none_deletes front (rewrites_without is_created creations_are_none path set edit front first w)) m))

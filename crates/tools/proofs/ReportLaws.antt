@@ -81,6 +81,7 @@ why_shown words why.NoSet = refl
 why_shown words why.NoFile = refl
 why_shown words why.Link = refl
 why_shown words why.NotWritable = refl
+why_shown words why.Shared = refl
 why_shown words (why.NoKey at) = both_shown (codes "no key has the thumbprint ") (printable (get_or words.others at [])) refl
     (text_shown (get_or words.others at []))
 why_shown words why.NoneStays = refl

@@ -1,16 +1,16 @@
 -- The calls that jose-set makes of the system (docs/SPECIFICATION.md "Tools").
 use Rattle.std.specs.Prelude.{ℕ, Bool, List, [], ◌∷◌, ◌++◌, Option, Result, Ok, Err}
-use Rattle.tools.specs.declared.put_files.Kind.{Kind}
 use Rattle.tools.specs.declared.put_files.NotCreated.{NotCreated}
+use Rattle.tools.specs.declared.put_files.NotOpened.{NotOpened}
 
 -- ---- calls (docs/SPECIFICATION.md "Tools")
 
 -- a call with its answer; a truth value says that it did its work
 pub data Call : Type 0 where
-  -- what the name itself is
-  asked : List ℕ → Kind → Call
-  -- the file was opened for writing, and closed again
-  tried : List ℕ → Bool → Call
+  -- the regular file of this name, which only its owner may open, was opened for reading and writing
+  opened : List ℕ → Result (Unit {0}) NotOpened → Call
+  -- all octets of this open file, whatever its name is by then
+  read_opened : List ℕ → Option (List ℕ) → Call
   -- all octets of the file, or of standard input if the name is `-`
   read : List ℕ → Option (List ℕ) → Call
   -- the octets were written to standard output, and this was finished
@@ -19,7 +19,7 @@ pub data Call : Type 0 where
   created : List ℕ → Result (Unit {0}) NotCreated → Call
   -- the octets were written to the new file
   wrote : List ℕ → List ℕ → Bool → Call
-  -- the new file got the mode of the other, and its owner and group where the system allows it
+  -- the new file got the owner of the other, which is open, and its group where the system allows it
   owned : List ℕ → List ℕ → Bool → Call
   -- all of the new file is on the disk
   synced : List ℕ → Bool → Call

@@ -1,8 +1,7 @@
 -- What the calls of jose-set say of its files.
 use Rattle.std.specs.Prelude.{◌≡◌, ℕ, true, List, [], ◌∷◌, ◌++◌, length, Some, Ok, ◌≢◌, Bool, false, Err, ◌⊎◌}
 use Rattle.std.specs.List.{list_any}
-use Rattle.tools.specs.declared.put_files.Kind.TheVariants as kind
-use Rattle.tools.specs.Calls.{Call, asked, tried, read, created, wrote, owned, synced, put, folder_synced, removed}
+use Rattle.tools.specs.Calls.{Call, opened, read_opened, read, created, wrote, owned, synced, put, folder_synced, removed}
 use Rattle.tools.specs.declared.tool_cause.Place.TheVariants.{Target}
 use Rattle.tools.specs.declared.tool_cause.ToolCause.{ToolCause}
 use Rattle.tools.specs.declared.tool_cause.ToolCause.TheVariants.{At}
@@ -18,26 +17,26 @@ abbrev pub reads : List (List ℕ) → List (List ℕ) → List Call
 reads (file ∷ files) (text ∷ texts) = read file (Some text) ∷ reads files texts
 reads files texts = []
 
--- The text was written to the new file of mode 600 that was created before, and this got the mode of the set, was brought to the disk, and
+-- The text was written to the new file of mode 600 that was created before, and this got the owner of the set, was brought to the disk, and
 -- then put in the place of the set.
 abbrev pub rewriting : List ℕ → List ℕ → List Call
 rewriting set text = wrote (beside set) text true ∷ owned (beside set) set true ∷ synced (beside set) true ∷ put (beside set) set true
     ∷ folder_synced set true ∷ []
 
--- the regular file may be written, and the new file is its lock
+-- the regular file is open, and the new file is its lock
 abbrev pub locking : List ℕ → List Call
-locking set = asked set kind.File ∷ tried set true ∷ created (beside set) (Ok tt) ∷ []
+locking set = opened set (Ok tt) ∷ created (beside set) (Ok tt) ∷ []
 
 -- After success these calls were made, in this order, and no other: what was put in the place of the set is the text of the answer.
 abbrev pub AddsAreWhole : Type 0
 AddsAreWhole = (set : List ℕ) (files : List (List ℕ)) (calls : List Call) → Changes (adds set files) calls (Ok tt)
     → (old : List ℕ) × ((texts : List (List ℕ)) × ((text : List ℕ) × ((added_text old texts ≡ Ok text) × (length texts ≡ length files)
-    × (calls ≡ locking set ++ (read set (Some old) ∷ (reads files texts ++ rewriting set text))))))
+    × (calls ≡ locking set ++ (read_opened set (Some old) ∷ (reads files texts ++ rewriting set text))))))
 
 abbrev pub RemovalsAreWhole : Type 0
 RemovalsAreWhole = (set : List ℕ) (names : List (List ℕ)) (calls : List Call) → Changes (removes set names) calls (Ok tt)
     → (old : List ℕ) × ((text : List ℕ) × ((text_without names old ≡ Ok text)
-    × (calls ≡ locking set ++ (read set (Some old) ∷ rewriting set text))))
+    × (calls ≡ locking set ++ (read_opened set (Some old) ∷ rewriting set text))))
 
 -- ---- refusals (docs/SPECIFICATION.md "Tools")
 

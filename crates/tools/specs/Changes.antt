@@ -2,36 +2,32 @@
 use Rattle.std.specs.Prelude.{◌≡◌, ℕ, ◌+◌, Bool, List, [], ◌∷◌, ◌++◌, codes, if◌then◌else◌, Option, None, Some, Result, Ok, Err}
 use Rattle.octets.specs.declared.refusal.Refusal.{Refusal}
 use Rattle.octets.specs.declared.refusal.Refusal.TheVariants as refusal
-use Rattle.tools.specs.declared.put_files.Kind.{Kind}
-use Rattle.tools.specs.declared.put_files.Kind.TheVariants as kind
 use Rattle.tools.specs.declared.put_files.NotCreated.{NotCreated}
 use Rattle.tools.specs.declared.put_files.NotCreated.TheVariants as failure
+use Rattle.tools.specs.declared.put_files.NotOpened.{NotOpened}
+use Rattle.tools.specs.declared.put_files.NotOpened.TheVariants as unopened
 use Rattle.tools.specs.declared.tool_cause.Place.{Place}
 use Rattle.tools.specs.declared.tool_cause.Place.TheVariants.{Target, Beside, File}
 use Rattle.tools.specs.declared.tool_cause.ToolCause.{ToolCause}
 use Rattle.tools.specs.declared.tool_cause.ToolCause.TheVariants.{Memory, Output, At}
 use Rattle.tools.specs.declared.tool_cause.Why.{Why}
 use Rattle.tools.specs.declared.tool_cause.Why.TheVariants as why
-use Rattle.tools.specs.Calls.{Call, asked, tried, read, written_out, created, wrote, owned, synced, put, removed, folder_synced}
+use Rattle.tools.specs.Calls.{Call, opened, read_opened, read, written_out, created, wrote, owned, synced, put, removed, folder_synced}
 use Rattle.tools.specs.Steps.{Step, Computes, Calls, Then}
 use Rattle.tools.specs.Sets.{JoinedKeys, no_keys, set_keys, set_text, text_without, with_text}
 
 -- ---- the set that is changed (docs/SPECIFICATION.md "Tools")
 
-abbrev pub by_kind : Kind → Result (Unit {0}) ToolCause
-by_kind kind.File = Ok tt
-by_kind kind.Link = Err (At Target why.Link)
-by_kind kind.Other = Err (At Target why.NoFile)
+abbrev pub opening_why : NotOpened → Why
+opening_why unopened.Link = why.Link
+opening_why unopened.NoFile = why.NoFile
+opening_why unopened.Shared = why.Shared
+opening_why unopened.NotWritable = why.NotWritable
 
--- the name itself is that of a regular file
-pub record IsFile (path : List ℕ) (calls : List Call) (result : Result (Unit {0}) ToolCause) : Type 0 where
-  pub kind : Kind
-  pub call : calls ≡ asked path kind ∷ []
-  pub cause : result ≡ by_kind kind
-
--- the file is a regular one that may be written
-abbrev pub Examines : List ℕ → Step (Unit {0})
-Examines path = Then (IsFile path) (λ file. Calls (tried path) (At Target why.NotWritable))
+-- The set is opened once, and is a regular file that only its owner may open.
+abbrev pub Opens : List ℕ → List Call → Result (Unit {0}) ToolCause → Type 0
+Opens path calls (Ok done) = calls ≡ opened path (Ok tt) ∷ []
+Opens path calls (Err cause) = (failure : NotOpened) × ((calls ≡ opened path (Err failure) ∷ []) × (cause ≡ At Target (opening_why failure)))
 
 -- ---- new files (docs/SPECIFICATION.md "Tools")
 
@@ -56,7 +52,7 @@ Places path target = Then (Calls (synced path) (At Beside why.NotOnDisk)) (λ do
 abbrev pub Fills : List ℕ → List ℕ → List ℕ → Step (Unit {0})
 Fills path target text = Then (Calls (wrote path text) (At Beside why.NotWritten)) (λ done. Places path target)
 
--- So it is, and the new file gets the mode and the owner of the old one.
+-- So it is, and the new file gets the owner of the old one.
 abbrev pub Refills : List ℕ → List ℕ → List ℕ → Step (Unit {0})
 Refills path target text = Then (Calls (wrote path text) (At Beside why.NotWritten))
     (λ done. Then (Calls (owned path target) (At Beside why.NotWritten)) (λ done. Places path target))
@@ -85,19 +81,19 @@ abbrev pub reading_cause : Place → Refusal → ToolCause
 reading_cause place refusal.Memory = Memory
 reading_cause place refusal = At place why.Unread
 
--- all of a file
-abbrev pub Reads : List ℕ → Place → List Call → Result (List ℕ) ToolCause → Type 0
-Reads path place calls (Ok text) = calls ≡ read path (Some text) ∷ []
-Reads path place calls (Err cause) = (refusal : Refusal) × ((calls ≡ read path None ∷ []) × (cause ≡ reading_cause place refusal))
+-- all of a file, by this call
+abbrev pub Reads : (Option (List ℕ) → Call) → Place → List Call → Result (List ℕ) ToolCause → Type 0
+Reads call place calls (Ok text) = calls ≡ call (Some text) ∷ []
+Reads call place calls (Err cause) = (refusal : Refusal) × ((calls ≡ call None ∷ []) × (cause ≡ reading_cause place refusal))
 
 -- all of a file, which is judged before anything else is called
-abbrev pub Judges : {A : Type 0} → List ℕ → Place → (List ℕ → Result A ToolCause) → Step A
-Judges path place judge = Then (Reads path place) (λ text. Computes (judge text))
+abbrev pub Judges : {A : Type 0} → (Option (List ℕ) → Call) → Place → (List ℕ → Result A ToolCause) → Step A
+Judges call place judge = Then (Reads call place) (λ text. Computes (judge text))
 
 -- the keys of the files, one after another
 abbrev pub Gathers : ℕ → JoinedKeys → List (List ℕ) → Step JoinedKeys
 Gathers at joined [] = Computes (Ok joined)
-Gathers at joined (file ∷ files) = Then (Judges file (File at) (with_text (File at) joined)) (λ more. Gathers (at + 1) more files)
+Gathers at joined (file ∷ files) = Then (Judges (read file) (File at) (with_text (File at) joined)) (λ more. Gathers (at + 1) more files)
 
 -- the text of the set of the keys
 abbrev pub Writes : JoinedKeys → Step (List ℕ)
@@ -107,7 +103,7 @@ abbrev pub ReadsJoined : List (List ℕ) → Step (List ℕ)
 ReadsJoined files = Then (Gathers 0 no_keys files) Writes
 
 abbrev pub ReadsAdded : List ℕ → List (List ℕ) → Step (List ℕ)
-ReadsAdded set files = Then (Judges set Target set_keys) (λ first. Then (Gathers 0 first files) Writes)
+ReadsAdded set files = Then (Judges (read_opened set) Target set_keys) (λ first. Then (Gathers 0 first files) Writes)
 
 -- what is done to a set: the keys of files are added, or the keys of thumbprints are removed
 pub data Editing : Type 0 where
@@ -116,7 +112,7 @@ pub data Editing : Type 0 where
 
 abbrev pub ReadsEdited : List ℕ → Editing → Step (List ℕ)
 ReadsEdited set (adding files) = ReadsAdded set files
-ReadsEdited set (removing names) = Judges set Target (text_without names)
+ReadsEdited set (removing names) = Judges (read_opened set) Target (text_without names)
 
 -- ---- the commands (docs/SPECIFICATION.md "Tools")
 
@@ -143,7 +139,7 @@ abbrev pub EditsBeside : List ℕ → List ℕ → Editing → Step (Unit {0})
 EditsBeside path set edit = Then (Creates path Beside why.Claimed) (λ done. Then (Undoes path Beside (Rewrites path set edit)) (λ done. EndsAt set))
 
 abbrev pub Edits : List ℕ → Editing → Step (Unit {0})
-Edits set edit = Then (Examines set) (λ done. Then (Names set) (λ path. EditsBeside path set edit))
+Edits set edit = Then (Opens set) (λ done. Then (Names set) (λ path. EditsBeside path set edit))
 
 -- what the words ask for
 pub data Asked : Type 0 where

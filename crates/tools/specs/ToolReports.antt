@@ -35,6 +35,7 @@ why_text words why.NoSet = codes "it is a key, and not a set. jose-set join -o N
 why_text words why.NoFile = codes "no regular file of this name was found"
 why_text words why.Link = codes "it is a symbolic link"
 why_text words why.NotWritable = codes "it may not be written"
+why_text words why.Shared = codes "others than its owner may open it; chmod 600 ends this"
 why_text words (why.NoKey at) = codes "no key has the thumbprint " ++ printable (get_or words.others at [])
 why_text words why.NoneStays = codes "one key must stay"
 why_text words why.Exists = codes "there is a file already"

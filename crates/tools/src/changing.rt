@@ -1,7 +1,7 @@
 //! What `jose-set` does with its files, call by call.
 ghost use Rattle.std.specs.Prelude.{◌≡◌, ◌+◌, ◌^◌, ◌<◌, length, map, string_bytes, Ok};
 ghost use Rattle.serde_json.specs.View.{items_view};
-ghost use Rattle.tools.specs.Calls.{written_out};
+ghost use Rattle.tools.specs.Calls.{read, read_opened, written_out};
 ghost use Rattle.tools.specs.Steps.{Calls, GivesUnlessMemory, Takes};
 ghost use Rattle.tools.specs.Sets.{no_keys, set_keys, set_text, text_without, with_text};
 ghost use Rattle.tools.specs.SetViews.{joined_view, seen, editing};
@@ -11,7 +11,7 @@ ghost use Rattle.tools.specs.Changes.{Changes, Edits, EditsBeside, Gathers, Judg
 use crate::joining::{no_keys, set_keys, set_text, with_text};
 use crate::put_files::PutFiles;
 use crate::removing::text_without;
-use crate::replacing::{create, delete_after, end_at, examine, fill, refill};
+use crate::replacing::{create, delete_after, end_at, fill, open, refill};
 use crate::set_words::SetRequest;
 use crate::sets::JoinedSet;
 use crate::tool_cause::{Place, ToolCause, Why};
@@ -107,9 +107,9 @@ fn edit_set<D: PutFiles>(
 ) -> Result<(), ToolCause>
     ensures { Takes D.made disk.old disk.new (Edits set.now (editing edit.entry)) result }
 {
-    examine(disk, set)?;
+    let old = open(disk, set)?;
     let path = beside(alloc, set)?;
-    edit_beside(alloc, disk, path.as_str(), set, edit)
+    edit_beside(alloc, disk, path.as_str(), old, set, edit)
 }
 
 /// Changes the set. The new file beside it is its lock: it is created before the set is read.
@@ -117,13 +117,15 @@ fn edit_beside<D: PutFiles>(
     alloc: Global,
     disk: &mut D,
     path: &str,
+    old: D::Old,
     set: &str,
     edit: Edit<'_>,
 ) -> Result<(), ToolCause>
+    requires { D.is_old old set.now }
     ensures { Takes D.made disk.old disk.new (EditsBeside path.now set.now (editing edit.entry)) result }
 {
     let new = create(disk, path, Place::Beside, Why::Claimed)?;
-    let outcome = rewrite(alloc, disk, new, path, set, edit);
+    let outcome = rewrite(alloc, disk, new, path, old, set, edit);
     delete_after(disk, path, Place::Beside, outcome)?;
     end_at(disk, set)
 }
@@ -134,14 +136,16 @@ fn rewrite<D: PutFiles>(
     disk: &mut D,
     new: D::New,
     path: &str,
+    mut old: D::Old,
     set: &str,
     edit: Edit<'_>,
 ) -> Result<(), ToolCause>
-    requires { D.is_new new path.now }
+    requires new { D.is_new new path.now }
+    requires old { D.is_old old set.now }
     ensures { Takes D.made disk.old disk.new (Rewrites path.now set.now (editing edit.entry)) result }
 {
-    let text = read_edited(alloc, disk, set, edit)?;
-    refill(disk, new, path, set, text.as_str())
+    let text = read_edited(alloc, disk, &mut old, set, edit)?;
+    refill(disk, new, path, &old, set, text.as_str())
 }
 
 /// The name of the new file beside a file.
@@ -157,14 +161,17 @@ fn beside(alloc: Global, path: &str) -> Result<String, ToolCause>
 fn read_edited<D: PutFiles>(
     alloc: Global,
     disk: &mut D,
+    old: &mut D::Old,
     set: &str,
     edit: Edit<'_>,
 ) -> Result<String, ToolCause>
-    ensures { Takes D.made disk.old disk.new (ReadsEdited set.now (editing edit.entry)) (seen string_bytes result) }
+    requires { D.is_old old.old set.now }
+    ensures takes { Takes D.made disk.old disk.new (ReadsEdited set.now (editing edit.entry)) (seen string_bytes result) }
+    ensures name { D.is_old old.new set.now }
 {
     match edit {
-        Edit::Add(files) => read_added(alloc, disk, set, files),
-        Edit::Remove(names) => read_without(alloc, disk, set, names),
+        Edit::Add(files) => read_added(alloc, disk, old, set, files),
+        Edit::Remove(names) => read_without(alloc, disk, old, set, names),
     }
 }
 
@@ -184,12 +191,15 @@ fn read_joined<D: PutFiles>(
 fn read_added<D: PutFiles>(
     alloc: Global,
     disk: &mut D,
+    old: &mut D::Old,
     set: &str,
     files: &[String],
 ) -> Result<String, ToolCause>
-    ensures { Takes D.made disk.old disk.new (ReadsAdded set.now (map string_bytes files.now)) (seen string_bytes result) }
+    requires { D.is_old old.old set.now }
+    ensures takes { Takes D.made disk.old disk.new (ReadsAdded set.now (map string_bytes files.now)) (seen string_bytes result) }
+    ensures name { D.is_old old.new set.now }
 {
-    let first = read_set(alloc, disk, set)?;
+    let first = read_set(alloc, disk, old, set)?;
     let joined = gather(alloc, disk, 0, first, files)?;
     joined_text(alloc, joined)
 }
@@ -239,17 +249,24 @@ fn read_with<D: PutFiles>(
     joined: JoinedSet,
     file: &str,
 ) -> Result<JoinedSet, ToolCause>
-    ensures { Takes D.made disk.old disk.new (Judges file.now place (with_text place (joined_view joined))) (seen joined_view result) }
+    ensures { Takes D.made disk.old disk.new (Judges (read file.now) place (with_text place (joined_view joined))) (seen joined_view result) }
 {
     let text = read(alloc, disk, place, file)?;
     with_text(alloc, place, joined, &text)
 }
 
 /// The keys of the file, which must be a set.
-fn read_set<D: PutFiles>(alloc: Global, disk: &mut D, set: &str) -> Result<JoinedSet, ToolCause>
-    ensures { Takes D.made disk.old disk.new (Judges set.now Place.Target set_keys) (seen joined_view result) }
+fn read_set<D: PutFiles>(
+    alloc: Global,
+    disk: &mut D,
+    old: &mut D::Old,
+    set: &str,
+) -> Result<JoinedSet, ToolCause>
+    requires { D.is_old old.old set.now }
+    ensures takes { Takes D.made disk.old disk.new (Judges (read_opened set.now) Place.Target set_keys) (seen joined_view result) }
+    ensures name { D.is_old old.new set.now }
 {
-    let text = read(alloc, disk, Place::Target, set)?;
+    let text = read_old(alloc, disk, old, set)?;
     set_keys(alloc, &text)
 }
 
@@ -257,13 +274,33 @@ fn read_set<D: PutFiles>(alloc: Global, disk: &mut D, set: &str) -> Result<Joine
 fn read_without<D: PutFiles>(
     alloc: Global,
     disk: &mut D,
+    old: &mut D::Old,
     set: &str,
     names: &[String],
 ) -> Result<String, ToolCause>
-    ensures { Takes D.made disk.old disk.new (Judges set.now Place.Target (text_without (map string_bytes names.now))) (seen string_bytes result) }
+    requires { D.is_old old.old set.now }
+    ensures takes { Takes D.made disk.old disk.new (Judges (read_opened set.now) Place.Target (text_without (map string_bytes names.now))) (seen string_bytes result) }
+    ensures name { D.is_old old.new set.now }
 {
-    let text = read(alloc, disk, Place::Target, set)?;
+    let text = read_old(alloc, disk, old, set)?;
     text_without(alloc, names, &text)
+}
+
+/// Reads the whole set, which is open.
+fn read_old<D: PutFiles>(
+    alloc: Global,
+    disk: &mut D,
+    old: &mut D::Old,
+    set: &str,
+) -> Result<Vec<u8>, ToolCause>
+    requires { D.is_old old.old set.now }
+    ensures takes { Takes D.made disk.old disk.new (Reads (read_opened set.now) Place.Target) (seen (λ text. text.items) result) }
+    ensures name { D.is_old old.new set.now }
+{
+    match disk.read_old(alloc, old, set) {
+        Ok(text) => Ok(text),
+        Err(refusal) => Err(reading_cause(Place::Target, refusal)),
+    }
 }
 
 /// Reads the whole file.
@@ -273,7 +310,7 @@ fn read<D: PutFiles>(
     place: Place,
     path: &str,
 ) -> Result<Vec<u8>, ToolCause>
-    ensures { Takes D.made disk.old disk.new (Reads path.now place) (seen (λ text. text.items) result) }
+    ensures { Takes D.made disk.old disk.new (Reads (read path.now) place) (seen (λ text. text.items) result) }
 {
     match disk.read(alloc, path) {
         Ok(text) => Ok(text),

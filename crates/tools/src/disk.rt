@@ -1,23 +1,24 @@
 //! The files of the operating system, and the standard streams, for `jose-set`.
-ghost use Rattle.std.specs.Prelude.{◌≡◌, ⊤, Some, false};
+ghost use Rattle.std.specs.Prelude.{◌≡◌, ◌⊎◌, ⊤, Some, false, IfErr};
 ghost use Rattle.jose.specs.Files.{origin_of, origin_named, IsUnopenedSource};
 ghost use Rattle.tools.specs.Disks.{IsReadWhole, IsWrittenWhole};
 
-use crate::put_files::{Kind, NotCreated, PutFiles};
+use crate::put_files::{NotCreated, NotOpened, PutFiles};
 use jose::{ReadFiles, Source};
 use octets::{Fault, ReaderInput, Refusal, WriterOutput, emit, read_to_end};
 use std::alloc::Global;
-use std::fs::{File, FileType, OpenOptions, Permissions, remove_file, rename, symlink_metadata};
+use std::fs::{File, Metadata, OpenOptions, remove_file, rename, symlink_metadata};
 use std::io;
 use std::io::{ErrorKind, Stdin, Stdout, Write};
 use std::os::fd::AsFd;
-use std::os::unix::fs::{MetadataExt, OpenOptionsExt, PermissionsExt, fchown};
+use std::os::unix::fs::{MetadataExt, OpenOptionsExt, fchown};
 
 /// The mode of a new file: readable and writable by its owner alone.
 const SECRET_MODE: u32 = 0o600;
 
-/// The bits of a mode that can be set.
-const MODE_BITS: u32 = 0o7777;
+/// The bits of a mode by which others than the owner may open a file. With an access control list those of the group are its mask, the most
+/// that it gives to anyone whom it names.
+const OTHERS_BITS: u32 = 0o077;
 
 /// The files of the system, and the standard streams.
 #[derive(Drop)]
@@ -32,35 +33,47 @@ pub(crate) struct Disk<'a> {
 pub(crate) struct SyncedFile(File);
 
 impl PutFiles for Disk<'_> {
+    type Old = File;
+
     type New = File;
 
     type Synced = SyncedFile;
 
     ghost made = { λ _ _. ⊤ };
 
+    ghost is_old = { λ _ _. ⊤ };
+
     ghost is_new = { λ _ _. ⊤ };
 
     ghost is_synced = { λ _ _. ⊤ };
 
-    fn kind(&mut self, path: &str) -> Kind {
-        match symlink_metadata(self.files, path) {
-            Ok(found) => kind_of(found.file_type()),
-            Err(_) => Kind::Other,
+    fn open_old(&mut self, path: &str) -> Result<File, NotOpened> {
+        // So no pipe and no device is opened, as long as nobody exchanges the name.
+        needs_file(symlink_metadata(self.files, path))?;
+        let mut options = OpenOptions::new();
+        options.read(true).write(true);
+        let Ok(file) = options.open(self.files, path) else {
+            return Err(NotOpened::NotWritable);
+        };
+        let found = needs_file(file.metadata())?;
+        // The kit cannot ask the system to follow no link. If the name itself is that of the open file, none was followed.
+        let named = needs_file(symlink_metadata(self.files, path))?;
+        if !is_same_file(&found, &named) {
+            return Err(NotOpened::NoFile);
+        }
+        if found.mode() & OTHERS_BITS == 0 {
+            Ok(file)
+        } else {
+            Err(NotOpened::Shared)
         }
     }
 
-    fn may_write(&mut self, path: &str) -> bool {
-        let mut options = OpenOptions::new();
-        options.write(true);
-        options.open(self.files, path).is_ok()
+    fn read_old(&mut self, alloc: Global, old: &mut File, _path: &str) -> Result<Vec<u8>, Refusal> {
+        in_reading(read_to_end(alloc, &mut ReaderInput::new(old)))
     }
 
     fn read(&mut self, alloc: Global, path: &str) -> Result<Vec<u8>, Refusal> {
-        match read_whole(alloc, self.files, self.input, path) {
-            Ok(text) => Ok(text),
-            Err(Refusal::Memory) => Err(Refusal::Memory),
-            Err(_) => Err(Refusal::Read),
-        }
+        in_reading(read_whole(alloc, self.files, self.input, path))
     }
 
     fn write_out(&mut self, octets: &[u8]) -> Result<(), Fault> {
@@ -81,17 +94,17 @@ impl PutFiles for Disk<'_> {
         caused(new.write_all(octets))
     }
 
-    fn own_as(&mut self, new: &File, _path: &str, old: &str) -> Result<(), Fault> {
-        let Ok(found) = symlink_metadata(self.files, old) else {
+    fn own_as(&mut self, new: &File, _path: &str, old: &File, _set: &str) -> Result<(), Fault> {
+        let (Ok(made), Ok(found)) = (new.metadata(), old.metadata()) else {
             return Err(Fault::Writing);
         };
         let group = Some(found.gid());
-        if fchown(new.as_fd(), Some(found.uid()), group).is_err() {
-            // Only root may give a file away. Its group stays if the user is a member.
+        if made.uid() == found.uid() {
+            // Its owner has the file already. The group may not open it, so it matters little whether it can be kept.
             let _ = fchown(new.as_fd(), None, group);
+            return Ok(());
         }
-        let mode = found.mode() & MODE_BITS;
-        caused(new.set_permissions(Permissions::from_mode(mode)))
+        caused(fchown(new.as_fd(), Some(found.uid()), group))
     }
 
     fn sync(&mut self, new: File, _path: &str) -> Result<SyncedFile, Fault> {
@@ -125,13 +138,27 @@ fn caused(answer: io::Result<()>) -> Result<(), Fault> {
     }
 }
 
-fn kind_of(found: FileType) -> Kind {
-    if found.is_file() {
-        Kind::File
-    } else if found.is_symlink() {
-        Kind::Link
-    } else {
-        Kind::Other
+/// What the system found, if it is a regular file.
+fn needs_file(found: io::Result<Metadata>) -> Result<Metadata, NotOpened> {
+    match found {
+        Ok(found) if found.is_file() => Ok(found),
+        Ok(found) if found.is_symlink() => Err(NotOpened::Link),
+        _ => Err(NotOpened::NoFile),
+    }
+}
+
+fn is_same_file(one: &Metadata, other: &Metadata) -> bool {
+    one.dev() == other.dev() && one.ino() == other.ino()
+}
+
+/// The refusal of a reading.
+fn in_reading(text: Result<Vec<u8>, Refusal>) -> Result<Vec<u8>, Refusal>
+    ensures { IfErr result (λ refusal. refusal ≡ Refusal.Read ⊎ refusal ≡ Refusal.Memory) }
+{
+    match text {
+        Ok(text) => Ok(text),
+        Err(Refusal::Memory) => Err(Refusal::Memory),
+        Err(_) => Err(Refusal::Read),
     }
 }
 

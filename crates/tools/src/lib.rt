@@ -64,7 +64,7 @@ pub use look_requests::look;
 pub use look_words::{LookRequest, parse_look};
 pub use looking::show_files;
 use octets::{Output, Refusal, WriterOutput};
-pub use put_files::{Kind, NotCreated, PutFiles};
+pub use put_files::{NotCreated, NotOpened, PutFiles};
 pub use set_words::{SetRequest, parse_set};
 use std::alloc::Global;
 use std::io::{Stdin, Stdout};

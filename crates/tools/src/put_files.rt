@@ -3,20 +3,22 @@
 //! have made no other.
 ghost use Rattle.std.specs.Prelude.{◌≡◌, ◌⊎◌, ℕ, List, option_map, IfOk, IfErr};
 ghost use Rattle.std.specs.Result.{is_ok, result_ok};
-ghost use Rattle.tools.specs.Calls.{Call, Makes, asked, tried, read, written_out, created, wrote, owned, synced, put, removed, folder_synced, as_done};
+ghost use Rattle.tools.specs.Calls.{Call, Makes, opened, read_opened, read, written_out, created, wrote, owned, synced, put, removed, folder_synced, as_done};
 
 use octets::{Fault, Refusal};
 use std::alloc::Global;
 
-/// What a name itself is. A symbolic link is not followed.
+/// Why the set that is changed was not opened.
 #[derive(Clone, Copy, Debug, PartialEq, Eq)]
-pub enum Kind {
-    /// A regular file.
-    File,
-    /// A symbolic link.
+pub enum NotOpened {
+    /// The name itself is a symbolic link.
     Link,
-    /// Anything else, or nothing.
-    Other,
+    /// It is no regular file, or another one when it was open.
+    NoFile,
+    /// Others than its owner may open it.
+    Shared,
+    /// It may not be read and written.
+    NotWritable,
 }
 
 /// Why a file was not created.
@@ -30,6 +32,9 @@ pub enum NotCreated {
 
 /// Files that can be read, and be replaced by new ones.
 pub trait PutFiles {
+    /// The set that is changed, which is open for reading and writing.
+    type Old: Drop;
+
     /// A new file that is open for writing.
     type New: Drop;
 
@@ -39,18 +44,31 @@ pub trait PutFiles {
     /// These calls were made, in this order.
     ghost made: { Self → List Call → Type 0 };
 
+    /// The open file had this name when it was opened.
+    ghost is_old: { Self.Old → List ℕ → Type 0 };
+
     /// The new file has this name.
     ghost is_new: { Self.New → List ℕ → Type 0 };
 
     ghost is_synced: { Self.Synced → List ℕ → Type 0 };
 
-    /// Says what the name is.
-    fn kind(&mut self, path: &str) -> Kind
-        ensures { Makes made self.old self.new (asked path.now result) };
+    /// Opens the regular file of this name, which only its owner may open. No link is followed. Another file may get the name later: what is
+    /// read and whose owner is kept is decided here.
+    fn open_old(&mut self, path: &str) -> Result<Self::Old, NotOpened>
+        ensures made { Makes made self.old self.new (opened path.now (as_done result)) }
+        ensures name { IfOk result (λ old. is_old old path.now) };
 
-    /// Whether the file of this name may be written. It is opened for writing, and closed again.
-    fn may_write(&mut self, path: &str) -> bool
-        ensures { Makes made self.old self.new (tried path.now result) };
+    /// Reads the whole open file. Refuses with `Read` or `Memory`.
+    fn read_old(
+        &mut self,
+        alloc: Global,
+        old: &mut Self::Old,
+        path: &str,
+    ) -> Result<Vec<u8>, Refusal>
+        requires { is_old old.old path.now }
+        ensures made { Makes made self.old self.new (read_opened path.now (option_map (λ octets. octets.items) (result_ok result))) }
+        ensures refusal { IfErr result (λ refusal. refusal ≡ Refusal.Read ⊎ refusal ≡ Refusal.Memory) }
+        ensures name { is_old old.new path.now };
 
     /// Reads the whole file of this name. `-` is standard input. Refuses with `Read` or `Memory`.
     fn read(&mut self, alloc: Global, path: &str) -> Result<Vec<u8>, Refusal>
@@ -72,10 +90,17 @@ pub trait PutFiles {
         ensures made { Makes made self.old self.new (wrote path.now octets.now (is_ok result)) }
         ensures name { is_new new.new path.now };
 
-    /// Gives the new file of this name the mode of the old file, and its owner and group where the system allows it.
-    fn own_as(&mut self, new: &Self::New, path: &str, old: &str) -> Result<(), Fault>
-        requires { is_new new.now path.now }
-        ensures { Makes made self.old self.new (owned path.now old.now (is_ok result)) };
+    /// Gives the new file of this name the owner of the open file, and its group where the system allows it. Its mode stays 600.
+    fn own_as(
+        &mut self,
+        new: &Self::New,
+        path: &str,
+        old: &Self::Old,
+        set: &str,
+    ) -> Result<(), Fault>
+        requires new { is_new new.now path.now }
+        requires old { is_old old.now set.now }
+        ensures { Makes made self.old self.new (owned path.now set.now (is_ok result)) };
 
     /// Brings all octets of the new file of this name to the disk, and waits for it.
     fn sync(&mut self, new: Self::New, path: &str) -> Result<Self::Synced, Fault>

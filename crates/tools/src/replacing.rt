@@ -1,44 +1,31 @@
 //! New files that are put in the place of others.
 ghost use Rattle.std.specs.Prelude.{◌≡◌, Ok, IfOk};
-ghost use Rattle.tools.specs.Calls.{as_done, tried, wrote, owned, synced, put};
+ghost use Rattle.tools.specs.Calls.{as_done, wrote, owned, synced, put};
 ghost use Rattle.tools.specs.Steps.{Takes, Calls};
-ghost use Rattle.tools.specs.Changes.{IsFile, by_kind, Examines, Creates, creation_cause, Places, Fills, Refills, Deletes, EndsAt};
+ghost use Rattle.tools.specs.Changes.{Opens, opening_why, Creates, creation_cause, Places, Fills, Refills, Deletes, EndsAt};
 
-use crate::put_files::{Kind, NotCreated, PutFiles};
+use crate::put_files::{NotCreated, NotOpened, PutFiles};
 use crate::tool_cause::{Place, ToolCause, Why};
 
-/// The set that is changed must be a regular file that may be written.
-pub(crate) fn examine<D: PutFiles>(disk: &mut D, set: &str) -> Result<(), ToolCause>
-    ensures { Takes D.made disk.old disk.new (Examines set.now) result }
+/// Opens the set that is changed.
+pub(crate) fn open<D: PutFiles>(disk: &mut D, set: &str) -> Result<D::Old, ToolCause>
+    ensures takes { Takes D.made disk.old disk.new (Opens set.now) (as_done result) }
+    ensures name { IfOk result (λ old. D.is_old old set.now) }
 {
-    needs_file(disk, set)?;
-    needs_writable(disk, set)
-}
-
-/// Refuses unless the name itself is that of a regular file.
-fn needs_file<D: PutFiles>(disk: &mut D, set: &str) -> Result<(), ToolCause>
-    ensures { Takes D.made disk.old disk.new (IsFile set.now) result }
-{
-    by_kind(disk.kind(set))
-}
-
-fn by_kind(kind: Kind) -> Result<(), ToolCause>
-    ensures { result ≡ by_kind kind }
-{
-    match kind {
-        Kind::File => Ok(()),
-        Kind::Link => Err(ToolCause::At(Place::Target, Why::Link)),
-        Kind::Other => Err(ToolCause::At(Place::Target, Why::NoFile)),
+    match disk.open_old(set) {
+        Ok(old) => Ok(old),
+        Err(failure) => Err(ToolCause::At(Place::Target, opening_why(failure))),
     }
 }
 
-fn needs_writable<D: PutFiles>(disk: &mut D, set: &str) -> Result<(), ToolCause>
-    ensures { Takes D.made disk.old disk.new (Calls (tried set.now) (ToolCause.At Place.Target Why.NotWritable)) result }
+fn opening_why(failure: NotOpened) -> Why
+    ensures { result ≡ opening_why failure }
 {
-    if disk.may_write(set) {
-        Ok(())
-    } else {
-        Err(ToolCause::At(Place::Target, Why::NotWritable))
+    match failure {
+        NotOpened::Link => Why::Link,
+        NotOpened::NoFile => Why::NoFile,
+        NotOpened::Shared => Why::Shared,
+        NotOpened::NotWritable => Why::NotWritable,
     }
 }
 
@@ -110,19 +97,21 @@ pub(crate) fn fill<D: PutFiles>(
     place(disk, new, path, target)
 }
 
-/// So it does, and gives the new file the mode and the owner of the target.
+/// So it does, and gives the new file the owner of the target, which is open.
 pub(crate) fn refill<D: PutFiles>(
     disk: &mut D,
     mut new: D::New,
     path: &str,
+    old: &D::Old,
     target: &str,
     text: &str,
 ) -> Result<(), ToolCause>
-    requires { D.is_new new path.now }
+    requires new { D.is_new new path.now }
+    requires old { D.is_old old.now target.now }
     ensures { Takes D.made disk.old disk.new (Refills path.now target.now text.now) result }
 {
     write(disk, &mut new, path, text)?;
-    own(disk, &new, path, target)?;
+    own(disk, &new, path, old, target)?;
     place(disk, new, path, target)
 }
 
@@ -142,11 +131,18 @@ fn write<D: PutFiles>(
     }
 }
 
-fn own<D: PutFiles>(disk: &mut D, new: &D::New, path: &str, old: &str) -> Result<(), ToolCause>
-    requires { D.is_new new.now path.now }
-    ensures { Takes D.made disk.old disk.new (Calls (owned path.now old.now) (ToolCause.At Place.Beside Why.NotWritten)) result }
+fn own<D: PutFiles>(
+    disk: &mut D,
+    new: &D::New,
+    path: &str,
+    old: &D::Old,
+    set: &str,
+) -> Result<(), ToolCause>
+    requires new { D.is_new new.now path.now }
+    requires old { D.is_old old.now set.now }
+    ensures { Takes D.made disk.old disk.new (Calls (owned path.now set.now) (ToolCause.At Place.Beside Why.NotWritten)) result }
 {
-    match disk.own_as(new, path, old) {
+    match disk.own_as(new, path, old, set) {
         Ok(()) => Ok(()),
         Err(_) => Err(ToolCause::At(Place::Beside, Why::NotWritten)),
     }

@@ -59,8 +59,10 @@ pub enum Why {
     NoFile,
     /// It is a symbolic link.
     Link,
-    /// It may not be written.
+    /// It may not be read and written.
     NotWritable,
+    /// Others than its owner may open it.
+    Shared,
     /// No key has the thumbprint at this place among the words, from 0.
     NoKey(usize),
     /// No key would stay.

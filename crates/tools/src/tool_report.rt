@@ -199,6 +199,10 @@ fn add_why(line: &mut Vec<u8>, words: Words<'_>, why: &Why) -> Result<(), AllocE
         Why::NoFile => add(line, "no regular file of this name was found"),
         Why::Link => add(line, "it is a symbolic link"),
         Why::NotWritable => add(line, "it may not be written"),
+        Why::Shared => add(
+            line,
+            "others than its owner may open it; chmod 600 ends this",
+        ),
         Why::NoneStays => add(line, "one key must stay"),
         Why::Exists => add(line, "there is a file already"),
         Why::Claimed => add(
