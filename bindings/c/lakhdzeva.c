@@ -3,7 +3,6 @@
 #include "lakhdzeva.h"
 
 #include <errno.h>
-#include <malloc.h>
 #include <stdbool.h>
 #include <stdlib.h>
 #include <string.h>
@@ -95,23 +94,56 @@ static void wipe(void *start, size_t length) {
     __asm__ volatile("" : : "r"(start) : "memory");
 }
 
-/* The proved functions call these two in place of free and realloc. A block is wiped before it is given back, with all that it can hold. */
-void lakhdzeva_wiped_free(void *old);
+/* The proved functions call these three in place of malloc, realloc and free. A block is wiped before it is given back. */
+void *lakhdzeva_wiped_malloc(size_t size);
 void *lakhdzeva_wiped_realloc(void *old, size_t size);
+void lakhdzeva_wiped_free(void *old);
 
-void lakhdzeva_wiped_free(void *old) {
-    if (old) wipe(old, malloc_usable_size(old));
-    free(old);
+/* In front of each block: where the memory of malloc begins, and the size of the block. So no allocator is asked for the size: malloc_usable_size
+   of another allocator than that of the block crashes, or gives any number. */
+struct front {
+    void *start;
+    size_t size;
+};
+
+enum { ALIGNMENT = 16, FRONT = (sizeof(struct front) + ALIGNMENT - 1) / ALIGNMENT * ALIGNMENT };
+
+static struct front *front_of(void *block) {
+    return (struct front *)((uint8_t *)block - FRONT);
+}
+
+/* The proved functions may count on blocks at multiples of 16. If malloc gives another address, it is asked for more, to move the block up. */
+void *lakhdzeva_wiped_malloc(size_t size) {
+    size_t up = 0;
+    if (size > SIZE_MAX - FRONT - ALIGNMENT) return NULL;
+    uint8_t *start = malloc(FRONT + size);
+    if ((uintptr_t)start % ALIGNMENT) {
+        free(start);
+        start = malloc(FRONT + size + ALIGNMENT);
+        up = ALIGNMENT - (uintptr_t)start % ALIGNMENT;
+    }
+    if (!start) return NULL;
+    uint8_t *block = start + up + FRONT;
+    *front_of(block) = (struct front){start, size};
+    return block;
 }
 
 /* A block that is moved would leave its octets behind, and nobody can know whether realloc moves it. So it always moves here. */
 void *lakhdzeva_wiped_realloc(void *old, size_t size) {
-    void *new = malloc(size);
+    void *new = lakhdzeva_wiped_malloc(size);
     if (!new || !old) return new;
-    size_t kept = malloc_usable_size(old);
+    size_t kept = front_of(old)->size;
     memcpy(new, old, kept < size ? kept : size);
     lakhdzeva_wiped_free(old);
     return new;
+}
+
+void lakhdzeva_wiped_free(void *old) {
+    if (!old) return;
+    struct front *front = front_of(old);
+    void *start = front->start;
+    wipe(front, FRONT + front->size);
+    free(start);
 }
 
 /* The octets of the stack that the proved functions use at most, unless the JSON nests deep: what lies below is no secret. Those that format

@@ -40,6 +40,7 @@
    - Nothing that a call writes overlaps another argument, and no text has 2^63 bytes or more. A NULL with a length, an overlap, such a length,
      an unknown flag and a missing length are 1 LAKHDZEVA_USAGE, and nothing is written then, not even a length.
    - A call has 256 KiB of stack.
+   - malloc and free belong to one allocator, whichever it is. The library calls no other function of it.
    - No call is made from a signal handler, or in the child of a process with threads before it runs another program.
    - Nothing jumps out of a call: no siglongjmp or longjmp from a signal handler, and no exception of C++ through it.
    - No thread is cancelled asynchronously in a call (PTHREAD_CANCEL_ASYNCHRONOUS).

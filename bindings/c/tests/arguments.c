@@ -1,6 +1,5 @@
 /* Compiles lakhdzeva.c over functions that stand for the proved ones, and over a getrandom(2), a malloc and a free of its own: what the proved
    functions get, also where the caller has NULL, how random octets are drawn, and how memory is wiped. */
-#include <malloc.h>
 #include <stdio.h>
 #include <stdlib.h>
 #include <string.h>
@@ -229,41 +228,67 @@ static void try_draws(void) {
     check("a wrong length goes no further", lakhdzeva_encrypt("", SIZE_MAX, NULL, 0, 0, NULL, 0, NULL, 0, &a, NULL, 0, NULL) == 1 && !calls);
 }
 
-/* ---- Memory: the blocks that are freed are zero */
+/* ---- Memory: the blocks begin at multiples of 16, and are zero when they are freed */
 
 static bool has_memory = true;
 static int blocks;
+/* How far the blocks of this malloc are from a multiple of 16, and where the last one begins and ends. */
+static size_t odd;
+static uint8_t *begins, *ends;
 
 static void *given_by_malloc(size_t size) {
-    blocks += has_memory;
-    return has_memory ? malloc(size) : NULL;
+    if (!has_memory) return NULL;
+    uint8_t *start = aligned_alloc(16, (size + odd + 15) / 16 * 16);
+    blocks++;
+    begins = start + odd;
+    ends = begins + size;
+    return begins;
 }
 
+/* The block that is freed next, and its size. It begins soon behind what malloc gave. */
+static uint8_t *block;
+static size_t block_size, seen;
+
 static void freed(void *old) {
-    bool is_zero = true;
-    for (size_t at = 0; old && at < malloc_usable_size(old); at++) is_zero = is_zero && !((uint8_t *)old)[at];
-    check("a block that is freed is zero", is_zero);
-    blocks -= old != NULL;
-    free(old);
+    if (!old) return;
+    if ((uintptr_t)block - (uintptr_t)old <= 2 * FRONT) {
+        bool is_zero = true;
+        for (size_t at = 0; at < block_size; at++) is_zero = is_zero && !block[at];
+        check("a block that is freed is zero", is_zero);
+        seen++;
+    }
+    blocks--;
+    free((uint8_t *)old - (uintptr_t)old % 16);
+}
+
+static void fill(uint8_t *new, size_t size) {
+    check("a block begins at a multiple of 16", new && (uintptr_t)new % 16 == 0);
+    check("and is within what malloc gave", new >= begins && new + size <= ends);
+    memset(new, 'x', size);
+    block = new, block_size = size;
 }
 
 static void try_memory(void) {
-    static const size_t sizes[] = {1, 24, 25, 100, 5000};
+    static const size_t sizes[] = {1, 24, 25, 100, 5000}, odds[] = {0, 1, 4, 8, 15};
     lakhdzeva_wiped_free(NULL);
-    for (size_t from = 0; from < 5; from++)
-        for (size_t to = 0; to < 5; to++) {
-            uint8_t *old = lakhdzeva_wiped_realloc(NULL, sizes[from]);
-            size_t kept = sizes[from] < sizes[to] ? sizes[from] : sizes[to];
-            memset(old, 'x', sizes[from]);
-            has_memory = false;
-            check("no memory", !lakhdzeva_wiped_realloc(old, sizes[to]) && blocks == 1 && old[0] == 'x' && old[sizes[from] - 1] == 'x');
-            has_memory = true;
-            uint8_t *moved = lakhdzeva_wiped_realloc(old, sizes[to]);
-            check("a block is moved", moved && blocks == 1 && moved[0] == 'x' && moved[kept - 1] == 'x');
-            memset(moved, 'y', sizes[to]);
-            lakhdzeva_wiped_free(moved);
-            check("and freed", !blocks);
-        }
+    check("too much memory", !lakhdzeva_wiped_malloc(SIZE_MAX) && !lakhdzeva_wiped_malloc(SIZE_MAX - FRONT - ALIGNMENT + 1) && !blocks);
+    for (size_t of = 0; of < 5; of++)
+        for (size_t from = 0; from < 5; from++)
+            for (size_t to = 0; to < 5; to++) {
+                odd = odds[of];
+                uint8_t *old = from % 2 ? lakhdzeva_wiped_malloc(sizes[from]) : lakhdzeva_wiped_realloc(NULL, sizes[from]);
+                fill(old, sizes[from]);
+                size_t kept = sizes[from] < sizes[to] ? sizes[from] : sizes[to];
+                has_memory = false;
+                check("no memory", !lakhdzeva_wiped_realloc(old, sizes[to]) && blocks == 1 && old[0] == 'x' && old[sizes[from] - 1] == 'x');
+                has_memory = true;
+                uint8_t *moved = lakhdzeva_wiped_realloc(old, sizes[to]);
+                check("a block is moved", moved && moved != old && blocks == 1 && moved[0] == 'x' && moved[kept - 1] == 'x');
+                fill(moved, sizes[to]);
+                lakhdzeva_wiped_free(moved);
+                check("and freed", !blocks && seen == 2);
+                seen = 0;
+            }
 }
 
 int main(void) {

@@ -1,5 +1,5 @@
 /* Looks for secrets in the memory of the process, after each function of lakhdzeva.h: after answers, refusals, and with each allocation refused in
-   turn. It is linked with the archive and with -Wl,--wrap=malloc.
+   turn. With the word `once` no allocation is refused. It is linked with the archive and with -Wl,--wrap=malloc.
 
    The secrets are the octets of keys and passwords, their base64url texts, a plaintext, and random octets that were drawn, which also are the
    content encryption keys. They are in constants, which are not writable. No 12 octets of one of them, which follow each other, may be in
@@ -99,6 +99,7 @@ ssize_t getrandom(void *octets, size_t length, unsigned flags) {
 /* ---- Memory */
 
 static size_t refused, asked;
+static bool refuses = true;
 void *__real_malloc(size_t size);
 void *__wrap_malloc(size_t size);
 
@@ -254,7 +255,7 @@ static void try_call(const char *what, call *made, enum lakhdzeva_status wanted,
     look(what, how);
     if (has_secrets && wanted != LAKHDZEVA_USAGE) check(what, "it uses more of the stack than is wiped", is_wiped_deep());
     size_t all = asked;
-    for (refused = 1; refused <= all; refused++) {
+    for (refused = 1; refuses && refused <= all; refused++) {
         status = called(made);
         snprintf(how, sizeof how, "without allocation %zu", refused);
         look(what, how);
@@ -263,7 +264,8 @@ static void try_call(const char *what, call *made, enum lakhdzeva_status wanted,
     refused = 0;
 }
 
-int main(void) {
+int main(int count, char **words) {
+    refuses = count < 2 || strcmp(words[1], "once");
     static const struct {
         const char *what;
         call *made;
