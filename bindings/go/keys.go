@@ -22,11 +22,26 @@ import (
 //		}
 //	}
 //
-// What fmt prints of it has no secret and no thumbprint.
+// What fmt, log, encoding/json and encoding/gob write of it has no secret and no thumbprint, also where it is in an unexported field of a struct.
+// Text has the secrets.
 type Keys struct {
+	// fmt calls no Format of an unexported field, and prints the fields of what is there. Of a function it prints the address.
+	content func() *content
+}
+
+// content is what a Keys holds.
+type content struct {
 	text        []byte
 	uses        []KeyUses
 	thumbprints []string
+}
+
+// get returns what the Keys holds: nothing, if NewKeys did not make it.
+func (keys *Keys) get() *content {
+	if keys.content == nil {
+		return &content{}
+	}
+	return keys.content()
 }
 
 // KeyUses says whether a member of a text of keys is a valid key, and what it may do by some algorithm. A valid key (Good) may do nothing if its
@@ -46,7 +61,8 @@ func NewKeys(text []byte) (*Keys, error) {
 	if err != nil {
 		return nil, err
 	}
-	return &Keys{text: text, uses: uses, thumbprints: strings.Split(lines, "\n")}, nil
+	known := &content{text: text, uses: uses, thumbprints: strings.Split(lines, "\n")}
+	return &Keys{content: func() *content { return known }}, nil
 }
 
 // ReadKeys reads the JSON text of a key or of a set from a file.
@@ -83,16 +99,16 @@ func KeysFromSecret(secret []byte, alg string) (*Keys, error) {
 
 // Len returns the number of valid keys.
 func (keys *Keys) Len() int {
-	return len(keys.thumbprints)
+	return len(keys.get().thumbprints)
 }
 
 // Uses returns what each member of the text may do, in order, with the invalid ones.
 func (keys *Keys) Uses() []KeyUses {
-	return append([]KeyUses(nil), keys.uses...)
+	return append([]KeyUses(nil), keys.get().uses...)
 }
 
 func (keys *Keys) some(may func(KeyUses) bool) bool {
-	for _, uses := range keys.uses {
+	for _, uses := range keys.get().uses {
 		if may(uses) {
 			return true
 		}
@@ -123,25 +139,25 @@ func (keys *Keys) CanDecrypt() bool {
 // Thumbprints returns the thumbprints of the valid keys by SHA-256, in their order. That of a password is not safe to publish: it lets anyone
 // test guesses.
 func (keys *Keys) Thumbprints() []string {
-	return append([]string(nil), keys.thumbprints...)
+	return append([]string(nil), keys.get().thumbprints...)
 }
 
 // Text returns a copy of the JSON text, with the secrets.
 func (keys *Keys) Text() []byte {
-	return append([]byte(nil), keys.text...)
+	return append([]byte(nil), keys.get().text...)
 }
 
 // Format writes the number of the keys, whatever the verb is.
 func (keys Keys) Format(state fmt.State, _ rune) {
-	fmt.Fprintf(state, "lakhdzeva.Keys(%d)", len(keys.thumbprints))
+	fmt.Fprintf(state, "lakhdzeva.Keys(%d)", keys.Len())
 }
 
 // known is the text, or that of no key for a Keys that NewKeys did not make: each call of such a Keys is ErrKey.
 func (keys *Keys) known() []byte {
-	if len(keys.text) == 0 {
-		return []byte("{}")
+	if text := keys.get().text; len(text) != 0 {
+		return text
 	}
-	return keys.text
+	return []byte("{}")
 }
 
 // Sign is the function Sign with these keys.

@@ -1,11 +1,15 @@
 package lakhdzeva
 
 import (
+	"encoding/base64"
+	"encoding/gob"
 	"encoding/json"
 	"errors"
 	"fmt"
+	"log"
 	"os"
 	"path/filepath"
+	"reflect"
 	"strings"
 	"sync"
 	"testing"
@@ -218,23 +222,91 @@ func TestTheSignerIsTheFirstKeyThatSigned(t *testing.T) {
 	}
 }
 
+// holder has Keys where fmt calls no Format: in fields that are not exported.
+type holder struct {
+	value   Keys
+	pointer *Keys
+	slice   []Keys
+	some    []*Keys
+	array   [1]Keys
+	byName  map[string]Keys
+	any     interface{}
+	deep    *struct{ inner struct{ keys Keys } }
+	Shown   Keys
+	Keys
+}
+
+// spellings are the ways in which a printer may write octets.
+func spellings(octets []byte) []string {
+	numbers, hexadecimal := make([]string, len(octets)), make([]string, len(octets))
+	for at, octet := range octets {
+		numbers[at], hexadecimal[at] = fmt.Sprint(octet), fmt.Sprintf("%#x", octet)
+	}
+	return []string{
+		string(octets), fmt.Sprintf("%x", octets), fmt.Sprintf("%X", octets), fmt.Sprintf("% x", octets), strings.Join(numbers, " "), strings.Join(numbers, ","),
+		strings.Join(hexadecimal, ", "), base64.StdEncoding.EncodeToString(octets),
+	}
+}
+
 func TestNothingSecretIsPrinted(t *testing.T) {
 	keys := keysOf(t, hs256Key)
+	held := holder{
+		value: *keys, pointer: keys, slice: []Keys{*keys}, some: []*Keys{keys}, array: [1]Keys{*keys}, byName: map[string]Keys{"a": *keys}, any: *keys, Shown: *keys,
+		Keys: *keys,
+	}
+	held.deep = &struct{ inner struct{ keys Keys } }{struct{ keys Keys }{*keys}}
+	// Without the methods of Keys, which holder embeds.
+	type plain holder
+	bare := struct{ held plain }{plain(held)}
+	values := []interface{}{
+		keys, *keys, []*Keys{keys}, []Keys{*keys}, struct{ K Keys }{*keys}, held, &held, bare, &bare, held.deep, []interface{}{bare}, map[string]interface{}{"a": bare},
+		held.value, held.pointer, held.slice, held.some, held.array, held.byName, held.any, struct{ k interface{} }{keys}, struct{ k interface{} }{*keys},
+		fmt.Errorf("with %v", bare),
+	}
 	var texts []string
-	for _, verb := range []string{"%v", "%+v", "%#v", "%s", "%q", "%x", "%d", "%t"} {
-		texts = append(texts, fmt.Sprintf(verb, keys), fmt.Sprintf(verb, *keys), fmt.Sprintf(verb, []*Keys{keys}), fmt.Sprintf(verb, struct{ K Keys }{*keys}))
+	for _, value := range values {
+		for _, verb := range []string{"%v", "%+v", "%#v", "%s", "%q", "%x", "%X", "% x", "%#x", "%d", "%t", "%c", "%U", "%p", "%T", "%w", "%!"} {
+			texts = append(texts, fmt.Sprintf(verb, value))
+		}
+		texts = append(texts, fmt.Sprint(value), fmt.Sprintln(value))
+		var logged strings.Builder
+		log.New(&logged, "", 0).Print(value)
+		texts = append(texts, logged.String())
+		if written, err := json.Marshal(value); err == nil {
+			texts = append(texts, string(written))
+		}
+		var encoded strings.Builder
+		// What cannot be encoded is refused.
+		_ = gob.NewEncoder(&encoded).Encode(value)
+		texts = append(texts, encoded.String())
 	}
-	written, err := json.Marshal(keys)
-	if err != nil {
-		t.Fatal(err)
-	}
-	for _, text := range append(texts, string(written)) {
-		if strings.Contains(text, "AAEC") || strings.Contains(text, "41414543") || strings.Contains(text, "65 65 69") || strings.Contains(text, keys.Thumbprints()[0]) {
-			t.Errorf("it prints %s", text)
+	secrets := spellings([]byte("AAECAwQFBgcICQoL"))
+	secrets = append(secrets, spellings([]byte(keys.Thumbprints()[0]))...)
+	secrets = append(secrets, spellings([]byte{0, 1, 2, 3, 4, 5, 6, 7, 8, 9, 10, 11, 12, 13, 14, 15})...)
+	for _, text := range texts {
+		for _, secret := range secrets {
+			if strings.Contains(text, secret) {
+				t.Errorf("it prints %s", text)
+			}
 		}
 	}
 	if text := fmt.Sprint(keys); text != "lakhdzeva.Keys(1)" {
 		t.Errorf("got %s", text)
+	}
+	if written, err := json.Marshal(keys); err != nil || string(written) != "{}" {
+		t.Errorf("got %s and %v", written, err)
+	}
+	// The printer of another package walks over fields as fmt does, and over pointers too.
+	for walk := []reflect.Value{reflect.ValueOf(*keys)}; len(walk) > 0; walk = walk[1:] {
+		switch at := walk[0]; at.Kind() {
+		case reflect.Struct:
+			for field := 0; field < at.NumField(); field++ {
+				walk = append(walk, at.Field(field))
+			}
+		case reflect.Func:
+		default:
+			t.Errorf("a %v of a Keys can be read", at.Type())
+		}
 	}
 }
 
