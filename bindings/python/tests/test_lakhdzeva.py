@@ -11,10 +11,13 @@ import array
 import base64
 import copy
 import ctypes
+import functools
 import hashlib
 import hmac
+import io
 import itertools
 import json
+import multiprocessing.reduction
 import os
 import pickle
 import subprocess
@@ -576,11 +579,35 @@ class Judged(Case):
             self.assertIn("<lakhdzeva.Keys: 2>", text)
         with self.assertRaises(TypeError):
             vars(keys)
+        self.assertFalse(hasattr(keys, "__dict__"))
 
     def test_keys_are_copied(self):
         keys = lakhdzeva.Keys(self.ONE)
-        for copied in (copy.copy(keys), copy.deepcopy(keys), pickle.loads(pickle.dumps(keys))):
+        for copied in (copy.copy(keys), copy.deepcopy(keys), copy.deepcopy([keys])[0], copy.deepcopy({"keys": keys})["keys"]):
             self.assertEqual((bytes(copied), copied.thumbprints(), copied.can_verify), (bytes(keys), keys.thumbprints(), True))
+
+    def test_keys_are_not_pickled(self):
+        class Derived(lakhdzeva.Keys):
+            pass
+
+        keys = lakhdzeva.Keys(self.ONE)
+        refused = self.assertRaisesRegex(TypeError, "Keys hold secrets and cannot be pickled")
+        for value in (keys, Derived(self.ONE), [keys], {"keys": keys}, functools.partial(print, keys)):
+            for protocol in range(pickle.HIGHEST_PROTOCOL + 1):
+                for pickler in (pickle.Pickler, pickle._Pickler):
+                    written = io.BytesIO()
+                    with refused:
+                        pickler(written, protocol).dump(value)
+                    self.assertNotIn(self.ONE["k"].encode(), written.getvalue())
+        for protocol in range(pickle.HIGHEST_PROTOCOL + 1):
+            with refused:
+                keys.__reduce_ex__(protocol)
+        for method in (keys.__reduce__, keys.__getstate__):
+            with refused:
+                method()
+        # A worker in another process gets its arguments by pickle.
+        with refused:
+            multiprocessing.reduction.ForkingPickler.dumps(keys)
 
     def test_a_derived_class_of_keys(self):
         class Other(lakhdzeva.Keys):

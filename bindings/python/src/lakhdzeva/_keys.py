@@ -5,7 +5,7 @@ from __future__ import annotations
 import os
 from base64 import urlsafe_b64encode
 from pathlib import Path
-from typing import Any, Dict, List, Literal, NamedTuple, Type, Union
+from typing import Any, Dict, List, Literal, NamedTuple, NoReturn, Type, Union
 
 from . import _arguments, _library
 from ._arguments import Octets
@@ -79,7 +79,8 @@ class Keys:
     - ``can_sign``, ``can_verify``, ``can_encrypt`` and ``can_decrypt`` say whether one of them may. To sign and to encrypt, all of them must.
 
     Every function that takes keys takes ``Keys``, and does not write their JSON again. The printed form shows no secret and no thumbprint.
-    ``bytes(keys)`` is the JSON text, with the secrets.
+    ``bytes(keys)`` is the JSON text, with the secrets. ``Keys`` cannot be pickled, so that no secret gets into a file, a queue or a cache unseen.
+    A copy is the same object, since nothing changes it.
     """
 
     __slots__ = ("_numbers", "_text", "_thumbprints")
@@ -159,6 +160,21 @@ class Keys:
 
     def __repr__(self) -> str:
         return f"<lakhdzeva.Keys: {len(self._thumbprints)}>"
+
+    def __copy__(self) -> "Keys":
+        return self
+
+    def __deepcopy__(self, memo: Any) -> "Keys":
+        return self
+
+    def __reduce_ex__(self, protocol: Any) -> NoReturn:
+        raise TypeError("Keys hold secrets and cannot be pickled: let each process read them, or pass bytes(keys)")
+
+    def __reduce__(self) -> NoReturn:
+        self.__reduce_ex__(None)
+
+    def __getstate__(self) -> NoReturn:
+        self.__reduce_ex__(None)
 
 
 # These slots are read so that a class that is derived from Keys answers nothing else.
