@@ -4,7 +4,9 @@ mod common;
 
 use common::*;
 use lakhdzeva::{FileError, Form, Hash, Keys, Refusal};
+use std::collections::HashMap;
 use std::path::{Path, PathBuf};
+use std::sync::{Arc, Mutex, OnceLock};
 use std::{env, fs, process};
 
 const HS256_KEY: &str =
@@ -280,8 +282,44 @@ fn the_signer_is_the_first_key_that_signed() {
 #[test]
 fn nothing_secret_is_printed() {
     let keys = keys_of(&set_of(&[HS256_KEY.to_string(), OTHER_KEY.to_string()]));
-    for text in [format!("{keys:?}"), format!("{keys:#?}")] {
+    for text in [
+        format!("{keys:?}"),
+        format!("{keys:#?}"),
+        format!("{keys:x?}"),
+    ] {
         assert_eq!(text, "Keys(2)");
+    }
+    // Where a derived Debug meets keys, it calls theirs.
+    #[derive(Debug)]
+    #[allow(dead_code)]
+    struct Holder<'a> {
+        value: Keys,
+        lent: &'a Keys,
+        boxed: Box<dyn std::fmt::Debug + 'a>,
+        list: Vec<Option<Keys>>,
+        shared: Arc<Mutex<Keys>>,
+        by_name: HashMap<&'a str, Result<Keys, Refusal>>,
+        once: OnceLock<Keys>,
+    }
+    let holder = Holder {
+        value: keys.clone(),
+        lent: &keys,
+        boxed: Box::new(keys.clone()),
+        list: vec![Some(keys.clone())],
+        shared: Arc::new(Mutex::new(keys.clone())),
+        by_name: HashMap::from([("a", Ok(keys.clone()))]),
+        once: OnceLock::from(keys.clone()),
+    };
+    let numbers = format!("{:?}", &keys.text()[..20]);
+    for text in [format!("{holder:?}"), format!("{holder:#?}")] {
+        assert_eq!(text.matches("Keys(2)").count(), 7, "{text}");
+        for secret in [
+            "AAEC",
+            numbers.trim_matches(['[', ']']),
+            &keys.thumbprints()[0],
+        ] {
+            assert!(!text.contains(secret), "{text}");
+        }
     }
 }
 
