@@ -6,8 +6,9 @@
 // Parsers in other languages refuse more lists in each other than some hundred or thousand.
 const MOST_DEPTH = 500;
 
-// The claims in the payload of this token, which was verified, at this time in seconds since 1970. Both are Buffers. If a claim is wrong, an Error
-// has its name as `claim`: form, claims, typ, exp, nbf, iss or aud. `exp` must be there. An `aud` must not be there unless an audience is expected.
+// The claims in the payload of this token, which was verified, at this time in seconds since 1970. Both are Buffers, and the token has not changed
+// since then: copy one of shared memory before you verify it. If a claim is wrong, an Error has its name as `claim`: form, claims, typ, exp, nbf,
+// iss or aud. `exp` must be there. An `aud` must not be there unless an audience is expected.
 function claimsOf(token, payload, now, { issuer, audience, typ, leeway = 0 } = {}) {
     const refuse = (claim) => {
         throw Object.assign(new Error(claim), { claim });

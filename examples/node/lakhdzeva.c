@@ -3,26 +3,29 @@
      cc -O2 -shared -fPIC -I/usr/include/node lakhdzeva.c -o lakhdzeva.node $(pkg-config --cflags --libs lakhdzeva)
 
    Each text is a Buffer. Each answer is a new Buffer, but for that of judgeKeys and of verifySigner. A refusal is thrown as an Error with the
-   message "17 NotOpened", say, and with the members `code`, such as "NotOpened", and `number`. */
+   message "17 NotOpened", say, and with the members `code`, such as "NotOpened", and `number`.
+
+   The library gets copies of the texts, which are wiped. Another thread can change a Buffer over a SharedArrayBuffer during a call, and a text that
+   changes while it is verified could be accepted, although nobody signed it. */
 #include <lakhdzeva.h>
 #include <node_api.h>
 #include <stdio.h>
 #include <stdlib.h>
+#include <string.h>
 
 struct text {
     void *octets;
     size_t length;
 };
 
-/* Reads as many Buffers as there are texts. Throws and returns 0 if the arguments are others. */
-static int read_texts(napi_env env, napi_callback_info info, size_t count, struct text *texts) {
-    napi_value given[4];
-    size_t found = 4;
-    bool fits = napi_get_cb_info(env, info, &found, given, NULL, NULL) == napi_ok && found == count;
-    for (size_t i = 0; fits && i < count; i++)
-        fits = napi_is_buffer(env, given[i], &fits) == napi_ok && fits && napi_get_buffer_info(env, given[i], &texts[i].octets, &texts[i].length) == napi_ok;
-    if (!fits) napi_throw_type_error(env, "ERR_INVALID_ARG_TYPE", "each argument must be a Buffer");
-    return fits;
+/* Wipes the copies of texts and frees them. A text without octets has no copy. */
+static void free_texts(struct text *texts, size_t count) {
+    for (size_t i = 0; i < count; i++) {
+        if (!texts[i].length) continue;
+        memset(texts[i].octets, 0, texts[i].length);
+        __asm__ volatile("" : : "r"(texts[i].octets) : "memory"); /* No compiler leaves the memset out. */
+        free(texts[i].octets);
+    }
 }
 
 /* The answer as a Buffer, or NULL after a refusal, which is thrown. The memory is freed. */
@@ -41,6 +44,23 @@ static napi_value answer(napi_env env, enum lakhdzeva_status status, void *place
     return result;
 }
 
+/* Copies as many Buffers as there are texts. Throws and returns 0 if the arguments are others, or if there is no memory. */
+static int read_texts(napi_env env, napi_callback_info info, size_t count, struct text *texts) {
+    napi_value given[4];
+    size_t found = 4;
+    bool fits = napi_get_cb_info(env, info, &found, given, NULL, NULL) == napi_ok && found == count;
+    for (size_t i = 0; fits && i < count; i++)
+        fits = napi_is_buffer(env, given[i], &fits) == napi_ok && fits && napi_get_buffer_info(env, given[i], &texts[i].octets, &texts[i].length) == napi_ok;
+    if (!fits) return napi_throw_type_error(env, "ERR_INVALID_ARG_TYPE", "each argument must be a Buffer"), 0;
+    for (size_t i = 0; i < count; i++) {
+        void *copy = texts[i].length ? malloc(texts[i].length) : texts[i].octets;
+        if (texts[i].length && !copy) return free_texts(texts, i), answer(env, LAKHDZEVA_MEMORY, NULL, 0), 0;
+        if (texts[i].length) memcpy(copy, texts[i].octets, texts[i].length);
+        texts[i].octets = copy;
+    }
+    return 1;
+}
+
 static napi_value thumbprints(napi_env env, napi_callback_info info) {
     struct text keys;
     if (!read_texts(env, info, 1, &keys)) return NULL;
@@ -48,6 +68,7 @@ static napi_value thumbprints(napi_env env, napi_callback_info info) {
     void *place = malloc(room);
     enum lakhdzeva_status status = LAKHDZEVA_MEMORY;
     if (place) status = lakhdzeva_thumbprints(keys.octets, keys.length, 256, place, room, &length);
+    free_texts(&keys, 1);
     return answer(env, status, place, length);
 }
 
@@ -59,6 +80,7 @@ static napi_value sign(napi_env env, napi_callback_info info) {
     enum lakhdzeva_status status = LAKHDZEVA_MEMORY;
     if (place)
         status = lakhdzeva_sign(of[0].octets, of[0].length, of[1].octets, of[1].length, LAKHDZEVA_COMPACT, of[2].octets, of[2].length, place, room, &length);
+    free_texts(of, 3);
     return answer(env, status, place, length);
 }
 
@@ -69,6 +91,7 @@ static napi_value verify(napi_env env, napi_callback_info info) {
     void *place = malloc(room + !room);
     enum lakhdzeva_status status = LAKHDZEVA_MEMORY;
     if (place) status = lakhdzeva_verify(of[0].octets, of[0].length, of[1].octets, of[1].length, 0, place, room, &length);
+    free_texts(of, 2);
     return answer(env, status, place, length);
 }
 
@@ -80,6 +103,7 @@ static napi_value verify_signer(napi_env env, napi_callback_info info) {
     void *place = malloc(room + !room);
     enum lakhdzeva_status status = LAKHDZEVA_MEMORY;
     if (place) status = lakhdzeva_verify_signer(of[0].octets, of[0].length, of[1].octets, of[1].length, place, room, &length, &at);
+    free_texts(of, 2);
     napi_value payload = answer(env, status, place, length), signer, result;
     if (!payload || napi_create_object(env, &result) != napi_ok || napi_create_uint32(env, (uint32_t)at, &signer) != napi_ok
         || napi_set_named_property(env, result, "payload", payload) != napi_ok || napi_set_named_property(env, result, "signer", signer) != napi_ok)
@@ -95,6 +119,7 @@ static napi_value judge_keys(napi_env env, napi_callback_info info) {
     void *place = malloc(room + !room);
     enum lakhdzeva_status status = LAKHDZEVA_MEMORY;
     if (place) status = lakhdzeva_judge_keys(keys.octets, keys.length, place, room, &length);
+    free_texts(&keys, 1);
     return answer(env, status, place, length);
 }
 
@@ -105,6 +130,7 @@ static napi_value decrypt(napi_env env, napi_callback_info info) {
     void *place = malloc(room + !room);
     enum lakhdzeva_status status = LAKHDZEVA_MEMORY;
     if (place) status = lakhdzeva_decrypt(of[0].octets, of[0].length, of[1].octets, of[1].length, NULL, 0, 0, place, room, &length);
+    free_texts(of, 2);
     return answer(env, status, place, length);
 }
 
