@@ -13,10 +13,16 @@ for name in file.jwk disk.jwe; do
     fi
 done
 # The clear text is in a new folder that nobody else can enter, since umask does nothing in a folder with a default ACL (acl(5)). It is
-# deleted when the script ends, also by HUP, INT or TERM.
+# deleted when the script ends, also by a signal, but not by KILL.
 clear=$(mktemp -d clear.XXXXXX)
-trap 'rm -f -r "$clear" || exit 1' EXIT
-trap 'exit 1' HUP INT TERM
+# clean: deletes the clear text. A signal that comes meanwhile ends neither the script nor rm. EXIT alone is not enough: dash and busybox leave
+# out its trap if a signal ends them.
+clean() {
+    trap '' HUP INT QUIT PIPE ALRM TERM USR1 USR2
+    rm -f -r "$clear"
+}
+trap 'clean || exit 1' EXIT
+trap 'clean; exit 1' HUP INT QUIT PIPE ALRM TERM USR1 USR2
 
 # Once: the key of the disk is encrypted to both. jose-password asks twice for the password, which is in no file.
 head -c 32 /dev/urandom > "$clear/disk.key"

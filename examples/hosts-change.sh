@@ -13,10 +13,16 @@ for name in keys keys.new secrets secret.plain; do
         exit 1
     fi
 done
-# The clear text is in a file that jose makes for its owner alone. It is deleted when the script ends, also by HUP,
-# INT or TERM.
-trap 'rm -f secret.plain || exit 1' EXIT
-trap 'exit 1' HUP INT TERM
+# The clear text is in a file that jose makes for its owner alone. It is deleted when the script ends, also by a
+# signal, but not by KILL.
+# clean: deletes the clear text. A signal that comes meanwhile ends neither the script nor rm. EXIT alone is not enough: dash and busybox leave
+# out its trap if a signal ends them.
+clean() {
+    trap '' HUP INT QUIT PIPE ALRM TERM USR1 USR2
+    rm -f secret.plain
+}
+trap 'clean || exit 1' EXIT
+trap 'clean; exit 1' HUP INT QUIT PIPE ALRM TERM USR1 USR2
 
 # new_keys FOLDER NAME..: a new folder with a new key for each name, and with a set of all of them for whoever encrypts. A set has at most
 # 64 keys: jose-jwe-enc(1) shows what to do for more hosts.

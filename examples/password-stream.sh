@@ -13,10 +13,16 @@ for name in typed.jwe typed.enc file.jwe file.enc sh.jwe sh.enc bash.jwe bash.en
     fi
 done
 # The clear texts are in a new folder that nobody else can enter, since umask does nothing in a folder with a default ACL (acl(5)). They are
-# deleted when the script ends, also by HUP, INT or TERM.
+# deleted when the script ends, also by a signal, but not by KILL.
 clear=$(mktemp -d clear.XXXXXX)
-trap 'rm -f -r "$clear" || exit 1' EXIT
-trap 'exit 1' HUP INT TERM
+# clean: deletes the clear texts. A signal that comes meanwhile ends neither the script nor rm. EXIT alone is not enough: dash and busybox leave
+# out its trap if a signal ends them.
+clean() {
+    trap '' HUP INT QUIT PIPE ALRM TERM USR1 USR2
+    rm -f -r "$clear"
+}
+trap 'clean || exit 1' EXIT
+trap 'clean; exit 1' HUP INT QUIT PIPE ALRM TERM USR1 USR2
 mkdir "$clear/files" "$clear/typed" "$clear/file" "$clear/sh" "$clear/bash"
 echo 'correct horse' > "$clear/files/secret.txt"
 

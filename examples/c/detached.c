@@ -5,10 +5,13 @@
      ./detached decrypt KEYFILE FILE OBJECT CIPHERTEXT
 
    The object has everything but the ciphertext: the headers, the encrypted key, the initialization vector and the tag. */
+#define _POSIX_C_SOURCE 200809L
+#include <fcntl.h>
 #include <lakhdzeva.h>
 #include <stdio.h>
 #include <stdlib.h>
 #include <string.h>
+#include <unistd.h>
 
 struct text {
     char *octets;
@@ -39,8 +42,10 @@ static struct text read_text(const char *name) {
     return text;
 }
 
-static void write_text(const char *name, const struct text *text) {
-    FILE *file = fopen(name, "wbx"); /* x: it overwrites nothing. */
+/* Writes a new file with this mode. O_EXCL: it overwrites nothing, and writes through no link. */
+static void write_text(const char *name, const struct text *text, mode_t mode) {
+    int number = open(name, O_WRONLY | O_CREAT | O_EXCL | O_CLOEXEC, mode);
+    FILE *file = number < 0 ? NULL : fdopen(number, "wb");
     if (!file || fwrite(text->octets, 1, text->length, file) != text->length || fclose(file)) stop(name, "it is there, or cannot be written");
 }
 
@@ -56,8 +61,8 @@ int main(int count, char **words) {
         status = lakhdzeva_encrypt(keys.octets, keys.length, /* template */ NULL, 0, LAKHDZEVA_DETACH, file.octets, file.length, object.octets, room,
             &object.length, ciphertext.octets, ciphertext_room, &ciphertext.length);
         if (status) stop(words[3], lakhdzeva_name(status));
-        write_text(words[5], &ciphertext);
-        write_text(words[4], &object);
+        write_text(words[5], &ciphertext, 0666);
+        write_text(words[4], &object, 0666);
     } else {
         struct text object = read_text(words[4]), ciphertext = read_text(words[5]);
         size_t room = lakhdzeva_decrypt_room(object.length, ciphertext.length);
@@ -65,7 +70,7 @@ int main(int count, char **words) {
         status = lakhdzeva_decrypt(keys.octets, keys.length, object.octets, object.length, ciphertext.octets, ciphertext.length, /* iterations */ 0,
             file.octets, room, &file.length);
         if (status) stop(words[4], lakhdzeva_name(status));
-        write_text(words[3], &file);
+        write_text(words[3], &file, 0600); /* Nobody else reads the plaintext, whatever the umask is. */
     }
     return 0;
 }
