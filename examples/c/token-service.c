@@ -6,12 +6,14 @@
    The words are the file of the keys, the port, the issuer and the audience that each token must name. The file has one key, or a set of keys
    while one key replaces another. The service starts if every key of it may verify signatures. If the file changes, the service reads it again.
    If one of the new keys may not verify, it says so and keeps the old ones. So write a new file and rename it. A bad token is 401. What is not
-   the sender's fault is 500. Put a server in front that speaks TLS. */
+   the sender's fault is 500. It reads no body, and closes after each answer. Put a server in front that speaks TLS. */
 #define _GNU_SOURCE
 #include "claims.h"
 
 #include <arpa/inet.h>
+#include <fcntl.h>
 #include <lakhdzeva.h>
+#include <poll.h>
 #include <pthread.h>
 #include <signal.h>
 #include <stdbool.h>
@@ -26,8 +28,9 @@
 #include <time.h>
 #include <unistd.h>
 
-/* A longer header is not looked at, since the work grows with it. LEEWAY has the seconds by which the clocks may differ. */
-enum { MOST_OCTETS = 4096, MOST_HEAD = 16384, MOST_KEYS = 1 << 20, LEEWAY = 30 };
+/* A longer header is not looked at, since the work grows with it. LEEWAY has the seconds by which the clocks may differ, and DEADLINE those in which
+   the whole head of a request must come. */
+enum { MOST_OCTETS = 4096, MOST_HEAD = 16384, MOST_KEYS = 1 << 20, LEEWAY = 30, DEADLINE = 10 };
 
 /* ---- The keys in a file, which are read again when the file changes. */
 
@@ -48,21 +51,31 @@ static const char *text_of(enum lakhdzeva_status status) {
     return text;
 }
 
+/* Whether it is the file that was read, unchanged. A writer can keep the length and the other time, but not the time of the last change. */
+static bool was_seen(const struct stat *now) {
+    return now->st_dev == seen.st_dev && now->st_ino == seen.st_ino && now->st_size == seen.st_size
+        && !memcmp(&now->st_mtim, &seen.st_mtim, sizeof seen.st_mtim) && !memcmp(&now->st_ctim, &seen.st_ctim, sizeof seen.st_ctim);
+}
+
 /* Reads the text of keys, and judges it. Returns what is wrong, or NULL. A file that could not be read is tried again at the next request, and one
    with broken keys is not. */
-static const char *read_keys(struct keys *found, const struct stat *now) {
-    FILE *file = fopen(key_file, "rb");
+static const char *read_keys(struct keys *found) {
+    /* Without O_NONBLOCK a pipe would wait for a writer. */
+    int file = open(key_file, O_RDONLY | O_NONBLOCK | O_CLOEXEC);
+    struct stat now;
     unsigned char uses[64];
     static char useless[64];
-    if (!file) return "it cannot be read";
-    found->text = malloc(MOST_KEYS);
-    found->length = found->text ? fread(found->text, 1, MOST_KEYS, file) : 0;
-    bool failed = !found->text || ferror(file), whole = feof(file);
-    fclose(file);
-    if (failed) return "it cannot be read";
-    if (!whole) return seen = *now, "it is too long";
+    if (file < 0) return "it cannot be read";
+    bool examined = !fstat(file, &now), regular = examined && S_ISREG(now.st_mode);
+    ssize_t got = -1;
+    if (regular && (found->text = malloc(MOST_KEYS)))
+        while ((got = read(file, found->text + found->length, MOST_KEYS - found->length)) > 0) found->length += (size_t)got;
+    close(file);
+    if (examined && !regular) return seen = now, "it is no regular file";
+    if (got < 0) return "it cannot be read";
+    if (found->length == MOST_KEYS) return seen = now, "it is too long";
     enum lakhdzeva_status status = lakhdzeva_judge_keys(found->text, found->length, uses, sizeof uses, &found->count);
-    if (status != LAKHDZEVA_MEMORY) seen = *now;
+    if (status != LAKHDZEVA_MEMORY) seen = now;
     if (status) return text_of(status);
     for (size_t i = 0; i < found->count; i++) {
         if (uses[i] & LAKHDZEVA_MAY_VERIFY) continue;
@@ -83,9 +96,8 @@ static const char *look_again(void) {
     struct stat now;
     struct keys found = {0};
     if (stat(key_file, &now)) return "it cannot be found";
-    if (now.st_ino == seen.st_ino && now.st_size == seen.st_size && now.st_mtim.tv_sec == seen.st_mtim.tv_sec && now.st_mtim.tv_nsec == seen.st_mtim.tv_nsec)
-        return NULL;
-    const char *wrong = read_keys(&found, &now);
+    if (was_seen(&now)) return NULL;
+    const char *wrong = read_keys(&found);
     if (wrong) forget(&found);
     else {
         fprintf(stderr, "token-service: %s: keys: %zu\n", key_file, found.count);
@@ -147,26 +159,43 @@ static struct answer judge(const char *header) {
     answer.why = claims_of(token, strlen(token), payload, length, &expected, (double)now.tv_sec + (double)now.tv_nsec / 1e9, &answer.claims);
     if (!answer.why && !json_is_string(json_object_get(answer.claims, "sub"))) answer.why = "sub";
     if (!answer.why) answer.status = 200;
+    else if (!strcmp(answer.why, "expected")) answer.status = 500;
     return answer;
 }
 
-/* Reads the head of the request, and puts the value of the header Authorization into `value`. Of several, none is taken. */
+static time_t seconds(void) {
+    struct timespec now;
+    clock_gettime(CLOCK_MONOTONIC, &now);
+    return now.tv_sec;
+}
+
+/* Reads the head of the request, if it comes before the deadline, and puts the value of the header Authorization into `value`. Of several headers
+   none is taken, even if one is empty. In a head with a line end that is not CRLF none is taken, since other programs may see other headers there. */
 static bool read_head(int stream, char head[MOST_HEAD + 1], const char **value) {
     size_t length = 0;
+    time_t ends = seconds() + DEADLINE;
     head[0] = 0;
     while (!strstr(head, "\r\n\r\n")) {
+        struct pollfd peer = {.fd = stream, .events = POLLIN};
+        int left = (int)(ends - seconds());
+        if (left <= 0 || poll(&peer, 1, left * 1000) <= 0) return false;
         ssize_t got = length < MOST_HEAD ? read(stream, head + length, MOST_HEAD - length) : 0;
         if (got <= 0 || memchr(head + length, 0, (size_t)got)) return false;
         head[length += (size_t)got] = 0;
     }
+    size_t count = 0;
+    bool strange = false;
     *value = "";
     for (char *line = head, *end; (end = strstr(line, "\r\n")) && end != line; line = end + 2) {
         *end = 0;
+        strange = strange || strpbrk(line, "\r\n");
         if (strncasecmp(line, "authorization:", 14)) continue;
         char *last = end;
         while (last > line && (last[-1] == ' ' || last[-1] == '\t')) *--last = 0;
-        *value = **value ? "several" : line + 14 + strspn(line + 14, " \t");
+        *value = line + 14 + strspn(line + 14, " \t");
+        count++;
     }
+    if (count > 1 || strange) *value = "several";
     return true;
 }
 
@@ -204,11 +233,13 @@ int main(int count, char **words) {
     char *end = NULL;
     long port = count == 5 ? strtol(words[2], &end, 10) : -1;
     if (port < 0 || port > 65535 || end == words[2] || *end) return fprintf(stderr, "usage: token-service KEYS PORT ISSUER AUDIENCE\n"), 1;
+    /* A peer that is gone, and a log that nobody reads, make a write fail and nothing else. */
+    signal(SIGPIPE, SIG_IGN);
     key_file = words[1], expected.issuer = words[3], expected.audience = words[4];
+    if (!*expected.issuer || !*expected.audience) return fprintf(stderr, "token-service: the issuer and the audience must not be empty\n"), 1;
     /* Broken keys end the service here, and not at each request. */
     const char *wrong = look_again();
     if (wrong) return fprintf(stderr, "token-service: %s: %s\n", key_file, wrong), 1;
-    signal(SIGPIPE, SIG_IGN);
     struct sockaddr_in at = {.sin_family = AF_INET, .sin_port = htons((uint16_t)port), .sin_addr.s_addr = htonl(INADDR_LOOPBACK)};
     socklen_t length = sizeof at;
     int listener = socket(AF_INET, SOCK_STREAM, 0), yes = 1;
@@ -223,9 +254,8 @@ int main(int count, char **words) {
     for (;;) {
         pthread_t thread;
         int stream = accept(listener, NULL, NULL);
-        struct timeval ten = {10, 0};
-        setsockopt(stream, SOL_SOCKET, SO_RCVTIMEO, &ten, sizeof ten);
-        setsockopt(stream, SOL_SOCKET, SO_SNDTIMEO, &ten, sizeof ten);
+        struct timeval deadline = {DEADLINE, 0};
+        if (stream >= 0) setsockopt(stream, SOL_SOCKET, SO_SNDTIMEO, &deadline, sizeof deadline);
         if (stream < 0 || pthread_create(&thread, &attributes, serve, (void *)(intptr_t)stream)) {
             /* Too many are open, or there is no memory for another thread. */
             perror("token-service");

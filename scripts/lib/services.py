@@ -327,11 +327,11 @@ def credentials_tried():
 
 
 @contextlib.contextmanager
-def started(words, folder, environment, keys="service.jwk"):
+def started(words, folder, environment, keys="service.jwk", issuer=ISSUER, audience=AUDIENCE):
     """Starts a service. Gives its port, or what it printed if it does not start, and a function that reads its errors."""
     errors = folder / "errors"
     with open(errors, "w") as file:
-        process = subprocess.Popen([str(it) for it in [*words, keys, "0", ISSUER, AUDIENCE]], stdout=subprocess.PIPE, stderr=file, text=True, cwd=folder, env=environment)
+        process = subprocess.Popen([str(it) for it in [*words, keys, "0", issuer, audience]], stdout=subprocess.PIPE, stderr=file, text=True, cwd=folder, env=environment)
     try:
         line = process.stdout.readline()
         port = re.fullmatch(r"listening on port (\d+)\n", line)
@@ -497,22 +497,25 @@ def try_service(built, folder):
 
 
 @contextlib.contextmanager
-def building(work, usr, environment):
+def building(work, usr, environment, more):
     """Builds the judges and the services of the languages while other things are tried. Gives a function that waits for them and tries them, with
-    the library that is installed in `usr`. The Python package may be installed by then in another folder."""
+    the library that is installed in `usr`. The Python package may be installed by then in another folder. Each function of `more` tries all."""
     with concurrent.futures.ThreadPoolExecutor(2) as pool:
         builds = [pool.submit(lambda language: list(language(work, usr, environment)), language) for language in (in_go, in_rust, in_c, in_node)]
-        yield lambda environment: try_all(environment, builds)
+        yield lambda environment: try_all(environment, builds, more)
 
 
-def try_all(environment, builds):
+def try_all(environment, builds, more):
     """Tries the judge and the service of each language."""
     resource.setrlimit(resource.RLIMIT_NOFILE, (min(8192, resource.getrlimit(resource.RLIMIT_NOFILE)[1]), resource.getrlimit(resource.RLIMIT_NOFILE)[1]))
     check_lengths()
     check_blocks()
     try_blocks(environment)
     try_pyjwt()
-    for built in [*in_python(environment), *(it for build in builds for it in build.result())]:
+    all_built = [*in_python(environment), *(it for build in builds for it in build.result())]
+    for built in all_built:
         with tempfile.TemporaryDirectory() as folder:
             try_claims(built)
             try_service(built, pathlib.Path(folder))
+    for trial in more:
+        trial(all_built)

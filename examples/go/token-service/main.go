@@ -12,12 +12,16 @@ import (
 	"encoding/json"
 	"errors"
 	"fmt"
+	"io"
 	"log"
 	"net"
 	"net/http"
 	"os"
+	"os/signal"
 	"regexp"
+	"strings"
 	"sync"
+	"syscall"
 	"time"
 
 	"lakhdzeva.example/lakhdzeva/v3"
@@ -29,6 +33,9 @@ const mostOctets = 4096
 // Seconds by which the clocks may differ.
 const leeway = 30
 
+// The time in which a whole request must come with its body, and as much for its answer, and until the next request begins.
+const deadline = 10 * time.Second
+
 // The scheme may be in small letters or capitals (RFC 9110 section 11.1). A JWT is in compact form.
 var credentials = regexp.MustCompile(`^(?i:bearer) +([A-Za-z0-9_.-]+)\z`)
 
@@ -36,8 +43,20 @@ var credentials = regexp.MustCompile(`^(?i:bearer) +([A-Za-z0-9_.-]+)\z`)
 type keyFile struct {
 	name  string
 	mutex sync.Mutex
-	seen  os.FileInfo
+	seen  state
 	keys  *lakhdzeva.Keys
+}
+
+// state tells a file and its content from others. A writer can keep the length and the other time, but not the time of the last change.
+type state struct {
+	device, inode    uint64
+	length           int64
+	written, changed syscall.Timespec
+}
+
+func stateOf(info os.FileInfo) state {
+	found := info.Sys().(*syscall.Stat_t)
+	return state{uint64(found.Dev), found.Ino, found.Size, found.Mtim, found.Ctim}
 }
 
 // judged returns the keys of this text, if each of them may verify signatures.
@@ -56,21 +75,31 @@ func judged(text []byte) (*lakhdzeva.Keys, error) {
 
 // read reads the keys, if the file is not the one that was read.
 func (file *keyFile) read() error {
-	seen, err := os.Stat(file.name)
+	info, err := os.Stat(file.name)
+	if err != nil || stateOf(info) == file.seen {
+		return err
+	}
+	// Without O_NONBLOCK a pipe would wait for a writer.
+	opened, err := os.OpenFile(file.name, os.O_RDONLY|syscall.O_NONBLOCK, 0)
 	if err != nil {
 		return err
 	}
-	if file.seen != nil && os.SameFile(seen, file.seen) && seen.Size() == file.seen.Size() && seen.ModTime().Equal(file.seen.ModTime()) {
-		return nil
+	defer opened.Close()
+	if info, err = opened.Stat(); err != nil {
+		return err
 	}
-	text, err := os.ReadFile(file.name)
+	if !info.Mode().IsRegular() {
+		file.seen = stateOf(info)
+		return errors.New("it is no regular file")
+	}
+	text, err := io.ReadAll(opened)
 	if err != nil {
 		return err
 	}
 	keys, err := judged(text)
 	if !errors.Is(err, lakhdzeva.ErrMemory) {
 		// A file that could not be read is tried again at the next request, and one with broken keys is not.
-		file.seen = seen
+		file.seen = stateOf(info)
 	}
 	if err != nil {
 		return err
@@ -117,7 +146,8 @@ func (service *service) subject(header string) (string, error) {
 }
 
 func (service *service) ServeHTTP(out http.ResponseWriter, request *http.Request) {
-	header := request.Header.Get("Authorization")
+	// Several headers make no credentials together, even if one is empty.
+	header := strings.Join(request.Header.Values("Authorization"), ", ")
 	status, challenge, answer := http.StatusOK, "", map[string]string{}
 	subject, err := service.subject(header)
 	var refusal lakhdzeva.Refusal
@@ -145,8 +175,13 @@ func (service *service) ServeHTTP(out http.ResponseWriter, request *http.Request
 func main() {
 	log.SetFlags(0)
 	log.SetPrefix("token-service: ")
+	// A log that nobody reads makes a write fail, and must not end the service.
+	signal.Ignore(syscall.SIGPIPE)
 	if len(os.Args) != 5 {
 		log.Fatal("usage: token-service KEYS PORT ISSUER AUDIENCE")
+	}
+	if os.Args[3] == "" || os.Args[4] == "" {
+		log.Fatal("the issuer and the audience must not be empty")
 	}
 	// Broken keys end the service here, and not at each request.
 	file := &keyFile{name: os.Args[1]}
@@ -159,9 +194,11 @@ func main() {
 	}
 	fmt.Println("listening on port", listener.Addr().(*net.TCPAddr).Port)
 	server := http.Server{
-		Handler:           &service{file, Expected{Issuer: os.Args[3], Audience: os.Args[4], Leeway: leeway}},
-		MaxHeaderBytes:    2 * mostOctets,
-		ReadHeaderTimeout: 10 * time.Second,
+		Handler:        &service{file, Expected{Issuer: os.Args[3], Audience: os.Args[4], Leeway: leeway}},
+		MaxHeaderBytes: 2 * mostOctets,
+		ReadTimeout:    deadline,
+		WriteTimeout:   deadline,
+		IdleTimeout:    deadline,
 	}
 	log.Fatal(server.Serve(listener))
 }

@@ -19,6 +19,8 @@ enum lakhdzeva_status lakhdzeva_verify(const void *keys, size_t keys_length, con
 #else
     verify *own;
     *(void **)&own = dlsym(RTLD_NEXT, "lakhdzeva_verify");
+    /* Node loads the library for its module alone. */
+    if (!own) *(void **)&own = dlsym(dlopen("liblakhdzeva.so.3", RTLD_NOW), "lakhdzeva_verify");
 #endif
     if (object_length == 17 && !memcmp(object, "FAULT.FAULT.", 12)) {
         const char *digits = (const char *)object + 15;
