@@ -1,6 +1,7 @@
 #include "claims.h"
 
 #include <lakhdzeva.h>
+#include <math.h>
 #include <stdbool.h>
 #include <stdlib.h>
 #include <string.h>
@@ -77,9 +78,18 @@ static const char *wrong_claim(const json_t *claims, const struct expected *expe
     return NULL;
 }
 
+/* Whether a token can be what the caller expects. An empty text comes of a setting that is missing, and must not mean that nothing is expected. */
+static bool is_expectation(const struct expected *expected, double now) {
+    if (expected->issuer && !*expected->issuer) return false;
+    if (expected->audience && !*expected->audience) return false;
+    if (expected->type && !*media_type(expected->type)) return false;
+    return isfinite(now) && isfinite(expected->leeway) && expected->leeway >= 0;
+}
+
 const char *claims_of(const char *token, size_t token_length, const char *payload, size_t payload_length, const struct expected *expected, double now,
     json_t **claims) {
     *claims = NULL;
+    if (!is_expectation(expected, now)) return "expected";
     if (!is_compact(token, token_length)) return "form";
     json_t *found = object_of(payload, payload_length);
     if (!found) return "claims";

@@ -3,7 +3,7 @@ that hide a change or never end, and clients that send slowly. scripts/bindings 
 """
 import asyncio, contextlib, http.client, json, os, pathlib, re, resource, socket, subprocess, tempfile, time
 
-from lib.services import AUDIENCE, BAD_TOKEN, ISSUER, NO_TOKEN, claims_now, put, started
+from lib.services import AUDIENCE, BAD_TOKEN, EXAMPLES, ISSUER, NO_TOKEN, claims_now, put, run, started
 from lib.standards import RFC7515_KEY
 from lib.texts import key_set, oct_key, signed
 from lib.trial import check
@@ -108,6 +108,47 @@ def refuses_empty_expectations(built, folder):
             if port or process.returncode != 1 or not re.fullmatch(line, errors()):
                 problems.append(f"{expected}: {port}, {process.returncode}, {errors()[-300:]!r}")
     check(f"{built.name}: the service does not start with an empty issuer or audience", problems)
+
+
+OPTIONS = """
+const assert = require("node:assert"), { claimsOf } = require(process.argv[1]), token = Buffer.from(process.argv[2]), payload = Buffer.from(process.argv[3]);
+const check = (expected, now = 1800000000) => claimsOf(token, payload, now, expected);
+assert.equal(check({ issuer: "login", audience: "api", leeway: 60 }).sub, "ann");
+const right = { issuer: "login", audience: "api", leeway: 60 };
+for (const wrong of [
+    { leeway: "30" }, { leeway: NaN }, { leeway: Infinity }, { leeway: -1 }, { leeway: null }, { leeway: true }, { leeway: undefined }, { leeway: 30n },
+    { isuer: "login" }, { iss: "login" }, { aud: "api" }, { Leeway: 30 }, { toString: "login" }, { typ: "" }, { typ: "application/" }, { typ: "Application/" },
+    { issuer: "" }, { issuer: undefined }, { issuer: null }, { issuer: ["login"] }, { issuer: 7 }, { issuer: Object("login") },
+    { audience: "" }, { audience: undefined }, { audience: ["api"] }, { typ: 7 },
+]) assert.throws(() => check({ ...right, ...wrong }), TypeError);
+for (const wrong of [Object.create({ isuer: "login" }), Object.create({ issuer: "" }), ["login"], "login", 7, null]) assert.throws(() => check(wrong), TypeError);
+for (const now of [NaN, Infinity, "1800000000", null, 1800000000n]) assert.throws(() => check({ audience: "api", leeway: 60 }, now), TypeError);
+"""
+ARGUMENTS = """
+import sys
+from claims import claims_of
+token, payload = (it.encode() for it in sys.argv[1:])
+right = {"issuer": "login", "audience": "api", "leeway": 60}
+assert claims_of(token, payload, 1800000000, **right)["sub"] == "ann"
+texts = "", b"login", 7, True, ["login"], ("login",)
+wrong = [{"issuer": it} for it in texts] + [{"audience": it} for it in texts] + [{"typ": it} for it in (*texts, "application/", "Application/")]
+wrong += [{"leeway": it} for it in ("30", None, True, -1, float("nan"), float("inf"))] + [{"isuer": "login"}]
+wrong += [{"now": it} for it in ("1800000000", None, True, float("nan"), float("inf"))]
+for one in wrong:
+    try:
+        claims_of(token, payload, **{"now": 1800000000} | right | one)
+    except TypeError:
+        continue
+    sys.exit(f"{one} is accepted")
+"""
+
+
+def refuses_options(built):
+    """Calls the functions of the languages that look at no types with wrong arguments. The token is valid for some of them."""
+    payload = b'{"iss":"login","aud":"api","sub":"ann","exp":1900000000,"nbf":1800000060}'
+    words = {"Node": ["node", "-e", OPTIONS, EXAMPLES / "node/claims.js"], "Python": [*built.judge[:1], "-c", ARGUMENTS]}[built.name]
+    status, printed = run(*words, signed(payload).decode(), payload.decode(), env=built.environment)
+    check(f"{built.name}: arguments of a wrong kind, empty ones and misspelt ones are a TypeError", [printed[-1500:]] if status else [])
 
 
 # ---- several headers
@@ -328,4 +369,6 @@ def try_all(all_built):
         with tempfile.TemporaryDirectory() as folder:
             for trial in serves_without_log, refuses_empty_expectations, takes_one_header, notices_kept_times, refuses_what_is_no_file:
                 trial(built, pathlib.Path(folder))
+        if built.name in ("Node", "Python"):
+            refuses_options(built)
     answers_beside_slow_clients(all_built)

@@ -156,7 +156,7 @@ func (service *service) ServeHTTP(out http.ResponseWriter, request *http.Request
 		answer["you"] = subject
 	case header == "":
 		status, challenge, answer["error"] = http.StatusUnauthorized, "Bearer", "no token"
-	case errors.As(err, &refusal) && refusal.Fault():
+	case errors.Is(err, errExpected), errors.As(err, &refusal) && refusal.Fault():
 		// The keys or this machine are at fault. The sender need not know why.
 		log.Print(err)
 		status, answer["error"] = http.StatusInternalServerError, "the service has a fault"
@@ -194,7 +194,7 @@ func main() {
 	}
 	fmt.Println("listening on port", listener.Addr().(*net.TCPAddr).Port)
 	server := http.Server{
-		Handler:        &service{file, Expected{Issuer: os.Args[3], Audience: os.Args[4], Leeway: leeway}},
+		Handler:        &service{file, Expected{Issuer: &os.Args[3], Audience: &os.Args[4], Leeway: leeway}},
 		MaxHeaderBytes: 2 * mostOctets,
 		ReadTimeout:    deadline,
 		WriteTimeout:   deadline,

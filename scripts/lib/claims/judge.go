@@ -21,12 +21,12 @@ func number(text string) float64 {
 
 func answer(keys *lakhdzeva.Keys, line string) string {
 	fields := strings.Split(line, "\t")
-	for at := 2; at < 5; at++ {
-		if fields[at] == "-" {
-			fields[at] = ""
+	expected := Expected{Leeway: number(fields[1])}
+	for at, text := range []**string{&expected.Issuer, &expected.Audience, &expected.Type} {
+		if fields[at+2] != "-" {
+			*text = &fields[at+2]
 		}
 	}
-	expected := Expected{Issuer: fields[2], Audience: fields[3], Type: fields[4], Leeway: number(fields[1])}
 	token := []byte(fields[5])
 	payload, err := keys.Verify(token)
 	if err == nil {

@@ -1,6 +1,6 @@
 """Verifies each token of standard input with the keys in the first argument, and judges its claims by examples/python/claims.py. A line has the
 time, the leeway, the issuer, the audience and the type that are expected, or - for none, and the token, with tabs between them. Prints for each
-`yes`, the claim that is wrong, or the refusal. The other programs of this folder do the same.
+`yes`, the claim that is wrong, the refusal, or `expected` if what is expected is refused. The other programs of this folder do the same.
 """
 import sys
 
@@ -18,6 +18,8 @@ def answer(line):
             answers.add("yes" if type(claims) is dict else f"{claims!r}")
         except (lakhdzeva.Refused, ValueError) as wrong:
             answers.add(str(wrong))
+        except TypeError:
+            answers.add("expected")
     return " or ".join(sorted(answers))
 
 
