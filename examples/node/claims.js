@@ -19,13 +19,16 @@ function claimsOf(token, payload, now, expected = {}) {
     };
     // Only letters of ASCII count: toLowerCase makes k of the sign of Kelvin, too.
     const mediaType = (text) => typeof text === "string" && text.replace(/[A-Z]/g, (it) => it.toLowerCase()).replace(/^application\//, "");
-    for (const name in expected) {
+    // A getter of a class is in an object too, but for..in passes over it.
+    const names = new Set(Object.keys(KINDS).filter((name) => name in expected));
+    for (const name in expected) names.add(name);
+    for (const name of names) {
         const value = expected[name], kind = Object.hasOwn(KINDS, name) && KINDS[name];
         const isFull = (name === "typ" ? mediaType(value) : value) !== "";
         const fits = kind === "number" ? Number.isFinite(value) && value >= 0 : typeof value === kind && isFull;
         if (!fits) throw new TypeError(`${name}: ${kind ? `it must be a ${kind} that is not empty or negative` : "there is no such option"}`);
     }
-    if (!Number.isFinite(now) || typeof expected !== "object") throw new TypeError("now must be a finite number, and the options an object");
+    if (!Number.isFinite(now)) throw new TypeError("now must be a finite number");
     const { issuer, audience, typ, leeway = 0 } = expected;
     const parts = /^([A-Za-z0-9_-]+)\.[A-Za-z0-9_-]+\.[A-Za-z0-9_-]+$/.exec(String(token)) ?? refuse("form");
     let claims;
@@ -51,8 +54,8 @@ function claimsOf(token, payload, now, expected = {}) {
     if (audience === undefined) {
         if (Object.hasOwn(claims, "aud")) refuse("aud");
     } else {
-        const names = Array.isArray(claims.aud) ? claims.aud : [claims.aud];
-        if (!names.includes(audience) || !names.every((name) => typeof name === "string")) refuse("aud");
+        const all = Array.isArray(claims.aud) ? claims.aud : [claims.aud];
+        if (!all.includes(audience) || !all.every((name) => typeof name === "string")) refuse("aud");
     }
     return claims;
 }

@@ -6,8 +6,8 @@ import collections, concurrent.futures, decimal, json, random, time
 
 from lib.services import EXAMPLES, judged
 from lib.standards import RFC7515_KEY
-from lib.texts import b64, flattened, signed
-from lib.trial import check
+from lib.texts import flattened, signed
+from lib.trial import check, left_out
 
 # Fewer of an answer would show that the generator has no edge there.
 FEWEST = 100
@@ -231,6 +231,8 @@ def agree(answers, differs):
 
 
 def compare(seed, count, all_built):
+    if len(all_built) < 2:
+        return left_out("the comparison of claims", "fewer than two languages are built")
     began, maker = time.monotonic(), Maker(seed)
     lines, differs, made = zip(*(maker.line() for _ in range(count)))
     with concurrent.futures.ThreadPoolExecutor(len(all_built)) as pool:

@@ -121,7 +121,8 @@ for (const wrong of [
     { issuer: "" }, { issuer: undefined }, { issuer: null }, { issuer: ["login"] }, { issuer: 7 }, { issuer: Object("login") },
     { audience: "" }, { audience: undefined }, { audience: ["api"] }, { typ: 7 },
 ]) assert.throws(() => check({ ...right, ...wrong }), TypeError);
-for (const wrong of [Object.create({ isuer: "login" }), Object.create({ issuer: "" }), ["login"], "login", 7, null]) assert.throws(() => check(wrong), TypeError);
+class Settings { get issuer() { return undefined; } }
+for (const wrong of [Object.create({ isuer: "login" }), Object.create({ issuer: "" }), new Settings(), ["login"], "login", 7, null]) assert.throws(() => check(wrong), TypeError);
 for (const now of [NaN, Infinity, "1800000000", null, 1800000000n]) assert.throws(() => check({ audience: "api", leeway: 60 }, now), TypeError);
 """
 ARGUMENTS = """
@@ -190,10 +191,9 @@ def takes_one_header(built, folder):
 
 def notices_kept_times(built, folder):
     """Writes other keys of the same length into the same file, which gets back its time."""
-    keys, credentials = [oct_key(bytes([number]) * 64, alg="HS256") for number in range(4)], []
-    file, other = folder / "service.jwk", folder / "other.jwk"
+    keys = [oct_key(bytes([number]) * 64, alg="HS256") for number in range(4)]
+    file, other, credentials = folder / "service.jwk", folder / "other.jwk", [bearer(key=key) for key in keys]
     put(folder, keys[0])
-    credentials = [bearer(key=key) for key in keys]
     before = file.stat()
 
     def in_place(key):
@@ -207,10 +207,9 @@ def notices_kept_times(built, folder):
         subprocess.run(["cp", "-p", other, file], check=True)
 
     def renamed(key):
-        copied_to = folder / "third.jwk"
-        copied_to.write_bytes(key)
-        os.utime(copied_to, ns=(before.st_atime_ns, before.st_mtime_ns))
-        os.replace(copied_to, file)
+        other.write_bytes(key)
+        os.utime(other, ns=(before.st_atime_ns, before.st_mtime_ns))
+        os.replace(other, file)
 
     with started(built.service, folder, built.environment) as (port, _, errors):
         if not port:
