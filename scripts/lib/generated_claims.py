@@ -243,7 +243,7 @@ def compare(seed, count, all_built):
     problems += [f"{dict(zip((it.name for it in all_built), answers))} of {it}" for answers, allowed, it in zip(rows, differs, made) if not agree(answers, allowed)]
     counts = collections.Counter(answers[0] for answers in rows)
     problems += [f"only {counts[it]} are {it}" for it in ("yes", "claims", "typ", "exp", "nbf", "iss", "aud", "expected") if counts[it] < min(FEWEST, count // 400)]
-    other = sum(len(set(answers)) > 1 for answers in rows)
+    other = sum(len(set(answers)) > 1 and agree(answers, allowed) for answers, allowed in zip(rows, differs))
     told = ", ".join(f"{it} {number}" for it, number in counts.most_common(9))
     what = f"{count} claims that are made from {seed} are judged alike in {', '.join(it.name for it in all_built)}, but for {other} listed differences ({told}; {time.monotonic() - began:.0f} s)"
     check(what, [f"{len(problems)} problems", *problems[:6]] if problems else [])

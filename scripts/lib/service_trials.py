@@ -238,12 +238,13 @@ def refuses_what_is_no_file(built, folder):
         place.symlink_to(os.ttyname(terminal))
 
     for what, make in ("a pipe", pipe), ("a terminal", device), ("a folder", pathlib.Path.mkdir):
-        strange = folder / "strange"
+        # Python's open has a message of its own for a folder.
+        strange, cause = folder / "strange", "" if what == "a folder" else "no regular file"
         make(strange)
         process = subprocess.Popen([str(it) for it in [*built.service, "strange", "0", ISSUER, AUDIENCE]], stdout=subprocess.PIPE, stderr=subprocess.STDOUT, cwd=folder, env=built.environment)
         try:
             printed = process.communicate(timeout=HANGS)[0].decode()
-            right = process.returncode == 1 and re.fullmatch(r"token-service(\.py)?: .*strange.*\n", printed)
+            right = process.returncode == 1 and re.fullmatch(r"token-service(\.py)?: .*strange.*\n", printed) and cause in printed
             problems += [f"{what} at the start: {process.returncode}, {printed!r}"] * (not right)
         except subprocess.TimeoutExpired:
             problems.append(f"{what} at the start: it hangs")
@@ -259,7 +260,7 @@ def refuses_what_is_no_file(built, folder):
             strange.rename(folder / "service.jwk")
             found = [answer for _ in range(2) for answer in answers(port, old, new, timeout=HANGS)]
             problems += [f"{what} later: {found}"] * (found != [200, 401] * 2)
-            problems += [f"{what} later: it is not logged"] * ("is not read again" not in errors())
+            problems += [f"{what} later: it is logged as {errors()[-200:]!r}"] * ("is not read again" not in errors() or cause not in errors())
             (folder / "service.jwk").rename(strange)
             if found == [200, 401] * 2:
                 put(folder, NEW_KEY)
@@ -341,9 +342,12 @@ async def bears(built, kind):
             most = len(list(folder.iterdir())) + CONNECTIONS
             resource.prlimit(process.pid, resource.RLIMIT_NOFILE, (most, most))
             clients = [asyncio.ensure_future(send_slowly(port, kind)) for _ in range(CONNECTIONS + 5)]
-            await asyncio.sleep(PAUSE / 2)
-            # A service that ends the connection after its answer bears the others anyway.
-            free = most - len(list(folder.iterdir()))
+            # A service that ends each connection after its answer has free descriptors beside the other kinds.
+            for _ in range(20 if kind == "head" else 8):
+                await asyncio.sleep(0.25)
+                free = most - len(list(folder.iterdir()))
+                if free <= 1:
+                    break
             problems += [f"{kind}: the trial left {free} descriptors"] * (kind == "head" and free > 1)
             taken = await seconds_to_answer(port, process)
             problems += [f"{kind}: no answer after {DEADLINE + MARGIN} seconds, {errors()[-200:]!r}"] * (taken is None)
