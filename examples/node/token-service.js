@@ -4,7 +4,7 @@
 //     node token-service.js KEYS PORT ISSUER AUDIENCE
 //
 // It starts if every key in the file may verify signatures. If the file changes, it reads it again, and keeps the old keys if a new one may not
-// verify. The head of lakhdzeva.c says how to make lakhdzeva.node. Put a server in front that speaks TLS.
+// verify. The head of lakhdzeva.c says how to make lakhdzeva.node. It needs Node.js 18.3 or later. Put a server in front that speaks TLS.
 "use strict";
 const fs = require("node:fs");
 const http = require("node:http");
