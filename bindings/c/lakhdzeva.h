@@ -30,7 +30,7 @@
    - A key without `alg` is used for each algorithm that takes its length. So write `alg` and `key_ops` into each key.
    - The member `kid` never selects a key: each key that you pass is tried.
    - If a name is repeated in a JSON object, the last one counts.
-   - An object takes at most 8 times its length in memory, and JSON of many small objects 270 times. So limit the length of a stranger's text.
+   - A token takes up to 132 times its length in memory, and an object in JSON form up to 350 times. So limit the length of a stranger's text.
    - The library wipes the memory that it used. Your own is not wiped: the texts of keys, and the buffers of results.
    - The timing of reading a key's text depends on the key.
 
