@@ -70,12 +70,6 @@ void *realloc(void *place, size_t size) {
     return counted(moved, size);
 }
 
-/* The library for C asks this of its own blocks, before it wipes them. */
-size_t malloc_usable_size(void *place) {
-    struct head *head = head_of(place);
-    return head ? head->size : 0;
-}
-
 void free(void *place) {
     struct head *head = head_of(place);
     if (!head) {

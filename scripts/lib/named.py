@@ -40,6 +40,7 @@ def compare():
     for path in (TOP / "scripts").rglob("*"):
         if path.is_file() and path.suffix in ("", ".py"):
             words |= set(re.findall(r"\w+", path.read_text()))
+    words |= set(re.findall(r"^\w+", (TOP / "crates.txt").read_text(), re.M))
     targets = set(re.findall(r"^([\w-]+):", (TOP / "Makefile").read_text(), re.M))
     for page in PAGES:
         code, named = spans((TOP / page).read_text())
