@@ -221,3 +221,38 @@ fn use_allows_signatures_or_encryption(rt: HostRuntime) {
         }
     }
 }
+
+/// What a sender and a recipient do with a key for these algorithms (section 4.3; RFC 7518 sections 4.4 to 4.8).
+const OPERATIONS: &[(KeyAlg, Operation, Operation)] = &[
+    (KeyAlg::Dir, Operation::Encrypt, Operation::Decrypt),
+    (KeyAlg::A128Kw, Operation::WrapKey, Operation::UnwrapKey),
+    (KeyAlg::A192Kw, Operation::WrapKey, Operation::UnwrapKey),
+    (KeyAlg::A256Kw, Operation::WrapKey, Operation::UnwrapKey),
+    (KeyAlg::A128GcmKw, Operation::WrapKey, Operation::UnwrapKey),
+    (KeyAlg::A192GcmKw, Operation::WrapKey, Operation::UnwrapKey),
+    (KeyAlg::A256GcmKw, Operation::WrapKey, Operation::UnwrapKey),
+    (
+        KeyAlg::Pbes2Hs256A128Kw,
+        Operation::WrapByPassword,
+        Operation::UnwrapByPassword,
+    ),
+    (
+        KeyAlg::Pbes2Hs384A192Kw,
+        Operation::WrapByPassword,
+        Operation::UnwrapByPassword,
+    ),
+    (
+        KeyAlg::Pbes2Hs512A256Kw,
+        Operation::WrapByPassword,
+        Operation::UnwrapByPassword,
+    ),
+];
+
+#[test]
+fn each_algorithm_has_its_operations(rt: HostRuntime) {
+    for &(alg, wrap, unwrap) in OPERATIONS {
+        let (first, second) = Operation::of_management(alg);
+        expect_same(&rt, first, wrap, "the sender");
+        expect_same(&rt, second, unwrap, "the recipient");
+    }
+}
