@@ -11,7 +11,7 @@ BUILT = scripts/compare-build
 demo:
 	@scripts/demo
 
-# Runs every test of the crates and the rows on unproved builds with checks on, in some four minutes on four processors. It proves nothing. The
+# Runs every test of the crates and the rows on unproved builds with checks on, in some six minutes on four processors. It proves nothing. The
 # gate (.ci/run) begins with it.
 test:
 	@scripts/test
